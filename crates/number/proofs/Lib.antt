@@ -1,0 +1,5 @@
+pub mod Sign
+pub mod Number
+pub mod Doubles
+pub mod Powers
+pub mod Scaling

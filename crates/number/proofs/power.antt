@@ -1,0 +1,4 @@
+-- What the proofs on rows of digits use.
+mod Multiplied
+mod NumeralLaws
+mod Rows
