@@ -1,0 +1,28 @@
+-- `attempt::guard`: by the test of its definition. Assumes nothing.
+use borrow.Author.Needs.{needs}
+use Rattle.loops.specs.Choice.{if_then_else_}
+use Rattle.bdf.specs.Attempt.{guarded}
+use Rattle.bdf.proofs.attempt.guard.Statement.{statement}
+use Rattle.bdf.proofs.attempt.guard.Tie as tie
+
+returns : tie.Need-returns
+unfolding guarded if_then_else_
+returns c = rw (← c .before .before .before .before .before .abs .ensures, c .before .before .if1 .taken, c .says .ensures, c .before .end .ensures)
+
+returns-2 : tie.Need-returns-2
+unfolding guarded if_then_else_
+returns-2 c = rw (← c .before .before .before .before .before .before .before .before .before .before .before .before .abs .ensures, c .before .before .before .before .before .before .before .before .before .if1 .left) (c .before .before .before .before .attempt-at .ensures)
+
+pub guard-spec : {M : Type 1} → statement M
+guard-spec =
+    tie.close
+    (tie.spec
+    (λ c κs. search needs)
+    (λ c κs. search needs)
+    (λ c κs. search needs)
+    returns
+    (λ c. search needs)
+    (λ c κs. search needs)
+    (λ c. search needs)
+    (λ c. search needs)
+    returns-2)

@@ -1,0 +1,47 @@
+-- `go_on::pivot_outside`: none found below i; the first that is found decides. Assumes nothing.
+use mathlib.Core.Path.{_≡_, sym}
+use mathlib.Core.Bool.{false}
+use Prim.Native.Nat.{_-_}
+use native.Mathlib.Omega.{arith}
+use borrow.Author.Tests.{lt-leb}
+use Rattle.loops.specs.Loop.{Turned, turn-none, turn-more, turn-all}
+use Rattle.bdf.specs.GoOn.{pivotTurn, pivotOutside}
+use Rattle.bdf.specs.DamageLaws.{pivot-found}
+use Rattle.bdf.proofs.go_on.pivot_outside.Statement.{statement}
+use Rattle.bdf.proofs.go_on.pivot_outside.Tie as tie
+
+abbrev Inv-loop : tie.InvT-loop
+Inv-loop n pivot i₀ i = Turned 0 (n - 1) (pivotTurn n pivot) false i false
+
+abbrev μ-loop : tie.MeasureT-loop
+μ-loop n pivot i₀ i = n - i
+
+loop-holds : tie.Need-loop-holds Inv-loop μ-loop
+loop-holds c = turn-none (omega arith)
+
+returns : tie.Need-returns Inv-loop μ-loop
+returns c = pivot-found _ (c .before .loop-test .taken) (c .before .before .loop .inv) (c .if1 .taken)
+
+loop-again : tie.Need-loop-again Inv-loop μ-loop
+unfolding pivotTurn
+loop-again c = turn-more (c .before .before .loop .inv) (omega arith) (sym (lt-leb _ _ (c .if1 .left)))
+
+returns-2 : tie.Need-returns-2 Inv-loop μ-loop
+unfolding pivotOutside
+returns-2 c = turn-all (c .before .loop .inv) (omega arith)
+
+pub pivot-outside-spec : {M : Type 1} → statement M
+pivot-outside-spec =
+    tie.close
+    (tie.spec
+    Inv-loop
+    μ-loop
+    loop-holds
+    (λ c. omega arith)
+    (λ c. omega arith)
+    (λ c. omega arith)
+    returns
+    (λ c. omega arith)
+    (λ c. omega arith)
+    loop-again
+    returns-2)

@@ -1,0 +1,49 @@
+-- `predict::psi`: one component a turn. Assumes nothing.
+use mathlib.Core.Path.{_≡_, refl}
+use Prim.Native.Nat.{_-_}
+use native.Mathlib.Omega.{arith}
+use lib.ListN.{length}
+use Rattle.loops.specs.Loop.{Turned, turn-none, turn-more, turn-all}
+use Rattle.bdf.specs.ReadyLaws.{room-kept}
+use Rattle.bdf.specs.Predict.{psiTurn, psied}
+use Rattle.bdf.proofs.predict.psi.Statement.{statement}
+use Rattle.bdf.proofs.predict.psi.Tie as tie
+
+abbrev Inv-loop : tie.InvT-loop
+Inv-loop ws₀ n order a i₀ ws i = (length ws ≡ length ws₀) × Turned 0 n (psiTurn n order) ws₀ i ws
+
+abbrev μ-loop : tie.MeasureT-loop
+μ-loop ws₀ n order a i₀ ws i = n - i
+
+loop-holds : tie.Need-loop-holds Inv-loop μ-loop
+loop-holds c = (refl, turn-none (omega arith))
+
+psi-sum-requires : tie.Need-psi-sum-requires Inv-loop μ-loop
+psi-sum-requires c κs = (room-kept (c .before .before .before .before .before .pre .0) (c .before .before .loop .inv .0), omega arith, omega arith)
+
+put-requires : tie.Need-put-requires Inv-loop μ-loop
+put-requires c κs = (room-kept (c .before .before .before .before .before .before .before .pre .0) (c .before .before .before .before .loop .inv .0), omega arith, omega arith)
+
+loop-again : tie.Need-loop-again Inv-loop μ-loop
+unfolding psiTurn
+loop-again c = (omega arith, turn-more (c .before .before .before .before .before .before .before .loop .inv .1) (omega arith) (rw (c .before .before .before .before .psi-sum .ensures, c .before .before .before .before .before .before .before .before .alpha .ensures) at (c .before .before .put .ensures)))
+
+returns : tie.Need-returns Inv-loop μ-loop
+unfolding psied
+returns c = turn-all (c .before .loop .inv .1) (c .loop-test .left)
+
+pub psi-spec : {M : Type 1} → statement M
+psi-spec =
+    tie.close
+    (tie.spec
+    Inv-loop
+    μ-loop
+    (λ c κs. omega arith)
+    loop-holds
+    psi-sum-requires
+    put-requires
+    (λ c. omega arith)
+    (λ c. omega arith)
+    loop-again
+    (λ c. omega arith)
+    returns)

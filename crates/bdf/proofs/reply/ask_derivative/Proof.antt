@@ -1,0 +1,18 @@
+-- `reply::ask_derivative`: the state is told, and the derivative asked. Assumes nothing.
+use borrow.Author.Needs.{needs}
+use Rattle.bdf.proofs.reply.ask_derivative.Statement.{statement}
+use Rattle.bdf.proofs.reply.ask_derivative.Tie as tie
+
+returns : tie.Need-returns
+returns c =
+    let at-tell = c .before .before .before in
+    rw (c .turn .ensures, at-tell .tell .ensures)
+
+pub ask-derivative-spec : {M : Type 1} → statement M
+ask-derivative-spec =
+    tie.close
+    (tie.spec
+    (λ c κs. search needs)
+    (λ c κs. search needs)
+    (λ c. search needs)
+    returns)

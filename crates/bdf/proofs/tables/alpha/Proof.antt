@@ -1,0 +1,12 @@
+-- `tables::alpha`: its constants have the bits of the table that the loop of `solve` computes. Assumes nothing.
+use mathlib.Core.Path.{ap}
+use mathlib.Core.List.{List}
+use borrow.Author.Needs.{needs}
+use lib.Ieee.{Float}
+use Rattle.loops.specs.Cell.{at}
+use Rattle.bdf.specs.TableBits.{alpha-bits}
+use Rattle.bdf.proofs.tables.alpha.Statement.{statement}
+use Rattle.bdf.proofs.tables.alpha.Tie as tie
+
+pub alpha-spec : {M : Type 1} → statement M
+alpha-spec = tie.close (tie.spec (λ c. search needs) (λ c. search needs) (λ c. ap (λ (table : List Float). at table (c .args .k)) alpha-bits))

@@ -1,0 +1,24 @@
+// The BDF solver: variable order 1 to 5, fixed-leading-coefficient steps, simplified Newton, by questions and replies.
+mod aim;
+mod attempt;
+pub mod begin;
+mod checks;
+mod factor;
+pub mod go_on;
+pub mod interpolate;
+mod judge;
+mod limits;
+mod moves;
+mod newton;
+mod norm;
+mod order;
+mod places;
+mod predict;
+mod reply;
+mod rescale;
+pub mod settings;
+mod starting;
+mod step;
+mod tables;
+pub mod types;
+mod unit;

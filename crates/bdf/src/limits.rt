@@ -1,0 +1,2 @@
+// The one bound on the number of components.
+pub(crate) const MAX_N: usize = 32;

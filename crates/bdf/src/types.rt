@@ -1,0 +1,169 @@
+// What goes in and what comes back: the settings, the questions and replies, and the state of a run.
+
+// A setting that the Rust holds as an Option<Float>.
+pub enum Setting {
+    Unset,
+    Given(f64),
+}
+
+// One number for every component, or one each in a slice that is lent beside it.
+pub enum Tolerance {
+    Scalar(f64),
+    Vector,
+}
+
+pub enum Status {
+    Success,
+    UserInterrupt,
+    NeedLargerNMax,
+    StepSizeTooSmall,
+}
+
+// Which of the two tolerances is negative.
+pub enum Kind {
+    Relative,
+    Absolute,
+}
+
+// Why a call did nothing, in the order of checking. specs/ gives each case its number.
+pub enum Refusal {
+    TooManyComponents,
+    WorkspaceShort,
+    QuestionShort,
+    ToleranceShort,
+    NegativeTolerance {
+        kind: Kind,
+        index: usize,
+        value: f64,
+    },
+    NoSteps,
+    LimitTooLarge,
+    ZeroFirstStep {
+        value: f64,
+        direction: f64,
+    },
+    Damaged,
+    HasEnded,
+    WrongReply,
+    SliceShort,
+}
+
+// What the caller says to the last answer; values stand in a slice that is lent beside it.
+pub enum Reply {
+    Values,
+    Continue,
+    Interrupt,
+    Modified(f64),
+}
+
+// What a run says: a question, a notice, its end, or a refusal.
+pub enum Answer {
+    Derivative(f64),
+    Jacobian(f64),
+    Start(f64),
+    Step {
+        old: f64,
+        new: f64,
+        start: f64,
+        h: f64,
+    },
+    End {
+        status: Status,
+        h: f64,
+    },
+    Refused(Refusal),
+}
+
+// The place in `solve` at which the run waits for a reply.
+pub enum Awaited {
+    FirstDerivative,
+    FirstJacobian,
+    StartDerivative,
+    StartNotice,
+    ModifiedStartDerivative,
+    ModifiedStartJacobian,
+    NewtonDerivative,
+    FailedJacobian,
+    StepNotice,
+    ModifiedStepDerivative,
+    ModifiedStepJacobian,
+    OrderJacobian,
+    Ended,
+}
+
+// max_steps, and the Newton limit with 0 already read as 1.
+pub struct Limits {
+    pub steps: usize,
+    pub newton: usize,
+}
+
+// What stays as the beginning computed it.
+pub struct Span {
+    pub xend: f64,
+    pub direction: f64,
+    pub hmax: f64,
+    pub hmin: f64,
+    pub newton_tol: f64,
+    pub first_step: Setting,
+}
+
+pub struct Evals {
+    pub ode: usize,
+    pub jac: usize,
+    pub lu: usize,
+}
+
+pub struct Steps {
+    pub total: usize,
+    pub accepted: usize,
+    pub rejected: usize,
+}
+
+// current_h, n_equal_steps and lu_is_current of the Rust.
+pub struct Pace {
+    pub h: f64,
+    pub equal_steps: usize,
+    pub lu_is_current: bool,
+}
+
+// Where the attempt under way leads.
+pub struct Aim {
+    pub h_signed: f64,
+    pub x_start: f64,
+    pub x_new: f64,
+    pub c: f64,
+}
+
+// The Newton iteration under way, and what its end left for the order's choice. `prev` counts once iters is above 0.
+pub struct Newton {
+    pub iters: usize,
+    pub prev: f64,
+    pub safety: f64,
+    pub error_norm: f64,
+}
+
+pub struct Progress {
+    pub n: usize,
+    pub limits: Limits,
+    pub span: Span,
+    pub evals: Evals,
+    pub steps: Steps,
+    pub order: usize,
+    pub x: f64,
+    pub pace: Pace,
+    pub aim: Aim,
+    pub current_c: f64,
+    pub newton: Newton,
+    pub pivot: [usize; 32],
+}
+
+// A run's state: it goes into every call by value and comes back.
+pub struct Run {
+    pub awaited: Awaited,
+    pub at: Progress,
+}
+
+pub struct Turn {
+    pub answer: Answer,
+    pub run: Run,
+}
