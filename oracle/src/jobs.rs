@@ -1,0 +1,59 @@
+//! Ordinary jobs, printed as the job program prints them, so that the Rust with document 01's powers and the Rust
+//! as it is can be held side by side.
+use crate::config::Config;
+use crate::make::Honest;
+use crate::random::Random;
+use crate::run::run;
+use crate::systems::Problem;
+use ivp::methods::Tolerance;
+
+/// `count` runs of the problems at ordinary tolerances, each after a line `job`.
+pub fn jobs(count: u64, seed: u64) -> String {
+    let mut random = Random::new(seed);
+    let mut text = String::new();
+    for _ in 0..count {
+        let problem = Problem::random(&mut random);
+        let mut config = Config::plain(2_000, 4, problem.x0, problem.xend, problem.y0);
+        config.rtol = Tolerance::Scalar(random.decade(-8.0, -2.0));
+        config.atol = Tolerance::Scalar(random.decade(-10.0, -4.0));
+        if random.once_in(2) {
+            config.first_step = Some((problem.xend - problem.x0) * random.decade(-4.0, -1.0));
+        }
+        let mut lines = String::new();
+        run(&config, &mut Honest(problem.system), &mut lines);
+        text += "job\n";
+        lines.lines().filter(|line| !line.starts_with(['D', 'J'])).for_each(|line| {
+            text += line;
+            text.push('\n');
+        });
+    }
+    text
+}
+
+/// How many jobs of two such texts agree, and in what.
+pub fn agreement(one: &str, other: &str) -> String {
+    let (one, other): (Vec<&str>, Vec<&str>) = (one.split("job\n").skip(1).collect(), other.split("job\n").skip(1).collect());
+    let agree = |part: fn(&str) -> Vec<&str>| one.iter().zip(&other).filter(|(a, b)| part(a) == part(b)).count();
+    format!(
+        "of {} jobs the same lines {}, the same counters {}, the same status {}\n",
+        one.len(),
+        agree(|job| job.lines().collect()),
+        agree(|job| job.lines().last().unwrap().split(' ').skip(3).collect()),
+        agree(|job| job.lines().last().unwrap().split(' ').take(2).collect()),
+    )
+}
+
+/// How powf stands to the exact inverse root, on ordinary numbers.
+pub fn powers(count: u64, seed: u64) -> String {
+    let mut random = Random::new(seed);
+    let (mut equal, mut above, mut below) = (0, 0, 0);
+    for _ in 0..count {
+        let (k, x) = (random.from_to(1, 7), random.decade(-12.0, 12.0));
+        match x.powf(-1.0 / k as f64).total_cmp(&powers::inverse_root_in_range(k, x)) {
+            std::cmp::Ordering::Equal => equal += 1,
+            std::cmp::Ordering::Greater => above += 1,
+            std::cmp::Ordering::Less => below += 1,
+        }
+    }
+    format!("of {count} inverse roots powf is equal in {equal}, above in {above}, below in {below}\n")
+}

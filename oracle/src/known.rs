@@ -1,0 +1,124 @@
+//! Cases whose answers document 01 and the transcript's paper print. They stand at the head of the stored sample.
+use crate::config::Config;
+use crate::make::record;
+use crate::systems::System;
+use crate::words::{word, words_of};
+use ivp::methods::Tolerance;
+
+pub struct Known {
+    pub words: Vec<u64>,
+    pub text: &'static str,
+}
+
+pub fn known() -> Vec<Known> {
+    let mut all = leaves();
+    all.extend(interpolations());
+    all.extend(runs());
+    all
+}
+
+fn leaves() -> Vec<Known> {
+    let sqrt = |x: f64, text| Known { words: vec![1, word(x)], text };
+    let root = |k, x: f64, text| Known { words: vec![2, k, word(x)], text };
+    let matrix = |kind, head: &[u64], xs: &[f64], text| {
+        let mut words = vec![kind];
+        words.extend(head);
+        words.extend(words_of(xs));
+        Known { words, text }
+    };
+    vec![
+        sqrt(2.25, "3FF8000000000000\n"),
+        sqrt(f64::from_bits(1), "1E60000000000000\n"),
+        root(2, 0.25, "4000000000000000\n"),
+        root(3, 8.0, "3FE0000000000000\n"),
+        root(1, 10.0, "3FB9999999999999\n"),
+        root(4, 0.0, "7FF0000000000000\n"),
+        root(0, 1.0, "R 14\n"),
+        root(8, 1.0, "R 14\n"),
+        root(7, 1.0, "3FF0000000000000\n"),
+        matrix(3, &[2, 7, 9], &[2.0, 1.0, 4.0, 6.0], "ok 1 9 4010000000000000 4018000000000000 BFE0000000000000 C000000000000000\n"),
+        matrix(4, &[2, 1, 9], &[4.0, 6.0, -0.5, -2.0, 5.0, 14.0], "4000000000000000 3FF0000000000000\n"),
+        matrix(3, &[1, 5], &[0.0], "R 15 5 0000000000000000\n"),
+    ]
+}
+
+/// With these coefficients the value at xi is the order that the mark is read as.
+fn interpolations() -> Vec<Known> {
+    let read_as = |mark: f64, text| {
+        let mut words = vec![5, 1];
+        words.extend(words_of(&[2.0, 0.0, 1.0, 9.0, 0.0, 1.0, 1.0, 1.0, 1.0, 1.0, mark]));
+        Known { words, text }
+    };
+    vec![
+        read_as(1.25, "3FF0000000000000\n"),
+        read_as(1.5, "4000000000000000\n"),
+        read_as(9.0, "4014000000000000\n"),
+        read_as(f64::NAN, "0000000000000000\n"),
+    ]
+}
+
+/// y' = 0 with y0 = 1, as in document 01's first job.
+fn still(max_steps: u64, xend: f64, first_step: Option<f64>, max_step: Option<f64>) -> Vec<u64> {
+    let mut config = Config::plain(max_steps, 4, 0.0, xend, vec![1.0]);
+    config.first_step = first_step;
+    config.max_step = max_step;
+    record(&config, System::Linear { a: vec![0.0] })
+}
+
+/// y' = -y under a Newton limit.
+fn decay(newton_maxiter: u64) -> Vec<u64> {
+    let mut config = Config::plain(3, newton_maxiter, 0.0, 1.0, vec![1.0]);
+    config.first_step = Some(0.25);
+    record(&config, System::Linear { a: vec![-1.0] })
+}
+
+fn runs() -> Vec<Known> {
+    let many = |n: usize| {
+        let mut config = Config::plain(2, 4, 0.0, 1.0, vec![1.0; n]);
+        config.first_step = Some(0.5);
+        config.atol = Tolerance::Scalar(1.0);
+        record(&config, System::Linear { a: vec![0.0; n * n] })
+    };
+    vec![
+        Known { words: still(100_000, 1.0, Some(0.5), None), text: FIRST_JOB },
+        Known { words: still(1, 1.0, Some(0.5), None), text: FIRST_JOB_OF_ONE_STEP },
+        Known { words: still(100_000, 0.0, Some(0.5), None), text: "+E 3 0000000000000000 0 0 0 1 1 0\n" },
+        Known { words: still(100_000, 0.0, Some(0.5), Some(1.0)), text: "+E 0 3FE0000000000000 0 0 0 1 1 0\n" },
+        Known { words: still(100_000, 0.0, None, None), text: "+E 3 0000000000000000 0 0 0 1 1 0\n" },
+        Known { words: still(100_000, 1.0, Some(0.0), None), text: "R 8 0000000000000000 3FF0000000000000\n" },
+        Known { words: many(32), text: "+E 0 3FE0000000000000 2 2 0 3 1 1\n" },
+        Known { words: many(33), text: "R 1\n" },
+        Known { words: many(0), text: "E 0 0000000000000000 0 0 0 0 0 0\n" },
+        // y' = -y never has a correction of norm 0: with a limit of 0, read as 1, every attempt fails
+        Known { words: decay(0), text: "+E 2 3FA0000000000000 3 0 3 4 4 3\n" },
+        Known { words: decay(1), text: "+E 2 3FA0000000000000 3 0 3 4 4 3\n" },
+    ]
+}
+
+const FIRST_JOB: &str = "\
+D 0000000000000000 3FF0000000000000
+J 0000000000000000 3FF0000000000000
+I 0000000000000000 3FF0000000000000
+D 3FE0000000000000 3FF0000000000000
+S 0000000000000000 3FE0000000000000 0000000000000000 3FE0000000000000 3FF0000000000000 3FF0000000000000 0000000000000000 0000000000000000 0000000000000000 0000000000000000 0000000000000000 3FF0000000000000
+D 3FF0000000000000 3FF0000000000000
+S 3FE0000000000000 3FF0000000000000 3FE0000000000000 3FE0000000000000 3FF0000000000000 3FF0000000000000 0000000000000000 0000000000000000 0000000000000000 0000000000000000 0000000000000000 3FF0000000000000
+E 0 3FE0000000000000 2 2 0 3 1 1
+";
+
+const FIRST_JOB_OF_ONE_STEP: &str = "\
+D 0000000000000000 3FF0000000000000
+J 0000000000000000 3FF0000000000000
+I 0000000000000000 3FF0000000000000
+D 3FE0000000000000 3FF0000000000000
+S 0000000000000000 3FE0000000000000 0000000000000000 3FE0000000000000 3FF0000000000000 3FF0000000000000 0000000000000000 0000000000000000 0000000000000000 0000000000000000 0000000000000000 3FF0000000000000
+E 2 3FE0000000000000 1 1 0 2 1 1
+";
+
+/// Whether an answer is the one printed; after `+` only its last line is.
+pub fn as_printed(known: &Known, answer: &str) -> bool {
+    match known.text.strip_prefix('+') {
+        None => answer == known.text,
+        Some(last) => answer.ends_with(&format!("\n{last}")),
+    }
+}
