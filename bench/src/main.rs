@@ -1,0 +1,154 @@
+//! bench DIR: our functions beside the Rust's, on the same numbers, in one run. Ours are driven by the programs in DIR, which
+//! take their own time; the Rust is called here. Rounds alternate and the quickest of each side counts. A row says whether
+//! both came to the same bits: for powers and runs that is asked of the Rust with document 01's powers put in, while the time
+//! is that of the Rust as it is.
+#[allow(dead_code)]
+#[path = "../../oracle/src/random.rs"]
+mod random;
+mod rust;
+
+use random::Random;
+use std::hint::black_box;
+use std::io::Write;
+use std::path::{Path, PathBuf};
+use std::process::{Command, Stdio};
+
+const ROUNDS: usize = 9;
+
+fn main() {
+    let dir = PathBuf::from(std::env::args().nth(1).expect("bench DIR"));
+    println!("{:<26} {:>10} {:>10} {:>8}  {:<9} {}", "what", "ours, ns", "Rust, ns", "ratio", "same bits", "goal");
+    let random = &mut Random::new(1);
+    number(&dir, random);
+    matrix(&dir, random);
+    interpolation(&dir, random);
+    runs(&dir, random);
+}
+
+/// One row: `input` is what the driver is given after the count of times; a time holds `units` calls.
+struct Row<'a> {
+    what: String,
+    driver: PathBuf,
+    head: Vec<u64>,
+    input: Vec<u64>,
+    times: u64,
+    units: f64,
+    rust: &'a dyn Fn() -> f64,
+    expected: &'a dyn Fn() -> f64,
+    goal: &'static str,
+}
+
+impl Row<'_> {
+    fn print(self) {
+        if !self.driver.exists() {
+            println!("{:<26} {:>10}", self.what, "-");
+            return;
+        }
+        let (mut ours, mut theirs, mut same) = (f64::INFINITY, f64::INFINITY, true);
+        let mut expected = 0.0;
+        for _ in 0..self.times {
+            expected += (self.expected)();
+        }
+        for _ in 0..ROUNDS {
+            let (ns, sum) = drive(&self.driver, &[&self.head[..], &[self.times], &self.input].concat());
+            ours = ours.min(ns / (self.times as f64 * self.units));
+            same &= sum.to_bits() == expected.to_bits();
+            let start = nanoseconds();
+            for _ in 0..self.times {
+                black_box((self.rust)());
+            }
+            theirs = theirs.min((nanoseconds() - start) as f64 / (self.times as f64 * self.units));
+        }
+        println!("{:<26} {ours:>10.1} {theirs:>10.1} {:>8.2}  {:<9} {}", self.what, ours / theirs, if same { "yes" } else { "NO" }, self.goal);
+    }
+}
+
+unsafe extern "C" {
+    fn clock_gettime(clock: i32, time: *mut [i64; 2]) -> i32;
+}
+
+/// The processor time that this process has used, as the drivers take it: the clock 2 of C's library on Linux.
+fn nanoseconds() -> i64 {
+    let mut time = [0; 2];
+    unsafe { clock_gettime(2, &mut time) };
+    time[0] * 1_000_000_000 + time[1]
+}
+
+/// The nanoseconds and the number that a driver prints.
+fn drive(driver: &Path, words: &[u64]) -> (f64, f64) {
+    let mut child = Command::new(driver).stdin(Stdio::piped()).stdout(Stdio::piped()).spawn().unwrap();
+    let bytes: Vec<u8> = words.iter().flat_map(|w| w.to_be_bytes()).collect();
+    child.stdin.take().unwrap().write_all(&bytes).unwrap();
+    let output = child.wait_with_output().unwrap();
+    let text = String::from_utf8(output.stdout).unwrap();
+    let fields: Vec<u64> = text.split_whitespace().map(|f| f.parse().unwrap()).collect();
+    assert!(output.status.success() && fields.len() == 2, "{}: {text}", driver.display());
+    (fields[0] as f64, f64::from_bits(fields[1]))
+}
+
+fn words(xs: &[f64]) -> Vec<u64> {
+    xs.iter().map(|x| x.to_bits()).collect()
+}
+
+fn number(dir: &Path, random: &mut Random) {
+    let xs: Vec<f64> = (0..1024).map(|_| random.decade(-12.0, 12.0)).collect();
+    let input = [&[xs.len() as u64][..], &words(&xs)].concat();
+    let sqrt = || xs.iter().fold(0.0, |sum, x| sum + black_box(x).sqrt());
+    let row = |what: String, k: usize, rust: &dyn Fn() -> f64, expected: &dyn Fn() -> f64, goal: &'static str| {
+        Row { what, driver: dir.join("number"), head: vec![k as u64], input: input.clone(), times: 200, units: xs.len() as f64, rust, expected, goal }.print()
+    };
+    row("sqrt (Rust: hardware)".into(), 0, &sqrt, &sqrt, "ours at most 30, better 20");
+    for k in 1..=7 {
+        let rust = || xs.iter().fold(0.0, |sum, x| sum + black_box(x).powf(-1.0 / k as f64));
+        let exact: f64 = xs.iter().fold(0.0, |sum, &x| sum + powers::inverse_root_in_range(k, x));
+        row(format!("inverse root {k} (powf)"), k, &rust, &|| exact, "ours at most 120");
+    }
+}
+
+fn matrix(dir: &Path, random: &mut Random) {
+    for n in [4, 16, 32] {
+        let a: Vec<f64> = (0..n * n).map(|_| random.signed()).collect();
+        let b: Vec<f64> = (0..n).map(|_| random.signed()).collect();
+        let zeros = vec![0.0; n];
+        let times = 400_000 / (n * n) as u64;
+        let factor = || rust::factor(&a, n);
+        let driver = dir.join("matrix");
+        let input = [&[n as u64][..], &vec![0; n], &words(&a), &words(&zeros)].concat();
+        let goal = "";
+        Row { what: format!("LU, n {n}"), driver: driver.clone(), head: vec![0], input, times, units: 1.0, rust: &factor, expected: &factor, goal }.print();
+        let (lu, ip) = rust::factors(&a, n);
+        let solve = || rust::solve(&lu, &b, &ip);
+        let pivots: Vec<u64> = ip.iter().map(|&m| m as u64).collect();
+        let input = [&[n as u64][..], &pivots, &words(&lu.data), &words(&b)].concat();
+        Row { what: format!("solve, n {n}"), driver, head: vec![1], input, times, units: 1.0, rust: &solve, expected: &solve, goal }.print();
+    }
+}
+
+fn interpolation(dir: &Path, random: &mut Random) {
+    for n in [4, 16, 32] {
+        let mut cont: Vec<f64> = (0..7 * n).map(|_| random.signed()).collect();
+        (0..n).for_each(|i| cont[7 * i + 6] = 5.0);
+        let places: Vec<f64> = (0..16).map(|i| 0.1 + i as f64 / 64.0).collect();
+        let (xold, h) = (0.1, 0.25);
+        let values = || places.iter().fold(0.0, |sum, &xi| sum + rust::interpolate(xi, &cont, xold, h, n));
+        let input = [&[n as u64][..], &words(&places), &words(&[xold, h]), &words(&cont)].concat();
+        let what = format!("interpolation, n {n}");
+        Row { what, driver: dir.join("interpolate"), head: vec![], input, times: 3_000, units: 16.0, rust: &values, expected: &values, goal: "" }.print();
+    }
+}
+
+fn runs(dir: &Path, random: &mut Random) {
+    for n in [1, 4, 16, 32] {
+        let a: Vec<f64> = (0..n * n)
+            .map(|i| if i / n == i % n { -1.0 - (i / n) as f64 } else { random.signed() / n as f64 })
+            .collect();
+        let y0: Vec<f64> = (0..n).map(|_| random.signed()).collect();
+        let job = rust::Job { a, y0, x0: 0.0, xend: 10.0, first_step: 1e-4, rtol: 1e-6, atol: 1e-9 };
+        let (attempts, sum) = rust::patched_run(&job);
+        let input = [&[n as u64][..], &words(&[job.x0, job.xend, job.first_step, job.rtol, job.atol]), &words(&job.y0), &words(&job.a)].concat();
+        let what = format!("attempt in a run, n {n}");
+        let times = 20_000_000 / (300 + 150 * n as u64) / attempts;
+        let units = attempts as f64;
+        Row { what, driver: dir.join("runs"), head: vec![], input, times, units, rust: &|| rust::run(&job).1, expected: &|| sum, goal: "" }.print();
+    }
+}
