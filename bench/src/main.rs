@@ -1,12 +1,14 @@
 //! bench DIR: our functions beside the Rust's, on the same numbers, in one run. Ours are driven by the programs in DIR, which
 //! take their own time; the Rust is called here. Rounds alternate and the quickest of each side counts. A row says whether
-//! both came to the same bits: for powers and runs that is asked of the Rust with document 01's powers put in, while the time
-//! is that of the Rust as it is.
+//! both came to the same bits: for powers and runs that is asked of the Rust with document 01's powers put in. A power's time
+//! is that of the Rust as it is; a run's is told of both.
 #[allow(dead_code)]
 #[path = "../../oracle/src/random.rs"]
 mod random;
+mod problems;
 mod rust;
 
+use problems::Problem;
 use random::Random;
 use std::hint::black_box;
 use std::io::Write;
@@ -22,7 +24,8 @@ fn main() {
     number(&dir, random);
     matrix(&dir, random);
     interpolation(&dir, random);
-    runs(&dir, random);
+    runs(&dir);
+    cvode(&dir);
 }
 
 /// One row: `input` is what the driver is given after the count of times; a time holds `units` calls.
@@ -74,16 +77,27 @@ fn nanoseconds() -> i64 {
     time[0] * 1_000_000_000 + time[1]
 }
 
-/// The nanoseconds and the number that a driver prints.
-fn drive(driver: &Path, words: &[u64]) -> (f64, f64) {
+/// What a program prints, given those words.
+fn told(driver: &Path, words: &[u64]) -> String {
     let mut child = Command::new(driver).stdin(Stdio::piped()).stdout(Stdio::piped()).spawn().unwrap();
     let bytes: Vec<u8> = words.iter().flat_map(|w| w.to_be_bytes()).collect();
     child.stdin.take().unwrap().write_all(&bytes).unwrap();
     let output = child.wait_with_output().unwrap();
     let text = String::from_utf8(output.stdout).unwrap();
+    assert!(output.status.success(), "{}: {text}", driver.display());
+    text
+}
+
+/// The nanoseconds and the number that a driver prints.
+fn drive(driver: &Path, words: &[u64]) -> (f64, f64) {
+    let text = told(driver, words);
     let fields: Vec<u64> = text.split_whitespace().map(|f| f.parse().unwrap()).collect();
-    assert!(output.status.success() && fields.len() == 2, "{}: {text}", driver.display());
+    assert!(fields.len() == 2, "{}: {text}", driver.display());
     (fields[0] as f64, f64::from_bits(fields[1]))
+}
+
+fn fields(driver: &Path, words: &[u64]) -> Vec<f64> {
+    told(driver, words).split_whitespace().map(|f| f.parse().unwrap()).collect()
 }
 
 fn words(xs: &[f64]) -> Vec<u64> {
@@ -137,18 +151,76 @@ fn interpolation(dir: &Path, random: &mut Random) {
     }
 }
 
-fn runs(dir: &Path, random: &mut Random) {
-    for n in [1, 4, 16, 32] {
-        let a: Vec<f64> = (0..n * n)
-            .map(|i| if i / n == i % n { -1.0 - (i / n) as f64 } else { random.signed() / n as f64 })
-            .collect();
-        let y0: Vec<f64> = (0..n).map(|_| random.signed()).collect();
-        let job = rust::Job { a, y0, x0: 0.0, xend: 10.0, first_step: 1e-4, rtol: 1e-6, atol: 1e-9 };
-        let (attempts, sum) = rust::patched_run(&job);
-        let input = [&[n as u64][..], &words(&[job.x0, job.xend, job.first_step, job.rtol, job.atol]), &words(&job.y0), &words(&job.a)].concat();
-        let what = format!("attempt in a run, n {n}");
-        let times = 20_000_000 / (300 + 150 * n as u64) / attempts;
-        let units = attempts as f64;
-        Row { what, driver: dir.join("runs"), head: vec![], input, times, units, rust: &|| rust::run(&job).1, expected: &|| sum, goal: "" }.print();
+/// Whole runs: ours, the Rust with document 01's powers put in, and the Rust as it is, in turn. Ours and the first go the same way
+/// to the bit, so their attempts are the same.
+fn runs(dir: &Path) {
+    println!();
+    println!("{:<30} {:>5} {:>8} {:>30} {:>30} {:>17}", "", "", "", "a run, us", "an attempt, ns", "ratio to");
+    println!(
+        "{:<30} {:>5} {:>8} {:>10}{:>10}{:>10} {:>10}{:>10}{:>10} {:>8}{:>9}  {}",
+        "a run of", "rtol", "attempts", "ours", "patched", "unaltered", "ours", "patched", "unaltered", "patched", " unaltered", "same bits"
+    );
+    for problem in problems::all() {
+        for (rtol, atol) in TOLERANCES {
+            one_run(dir, &problem, rtol, atol);
+        }
     }
+}
+
+const TOLERANCES: [(f64, f64); 2] = [(1e-6, 1e-9), (1e-3, 1e-6)];
+
+/// CVODE on the same problems, where its program was built: its time, its steps, and the errors of both at the end, the greatest
+/// over the components in units of atol + rtol * |y|, against a run of the Rust at rtol 1e-11, atol 1e-14.
+fn cvode(dir: &Path) {
+    let driver = dir.join("cvode");
+    if !driver.exists() {
+        return;
+    }
+    println!();
+    println!("{:<30} {:>5} {:>10} {:>10} {:>12} {:>10}", "CVODE", "rtol", "a run, us", "steps", "error", "our error");
+    for problem in problems::all() {
+        let exact = rust::patched(&problem, 1e-11, 1e-14, true).last;
+        for (rtol, atol) in TOLERANCES {
+            let ours = rust::patched(&problem, rtol, atol, true);
+            let times = (20_000_000 / ((300 + 150 * problem.y0.len() as u64) * ours.attempts)).max(1);
+            let input = [&[times][..], &problem.words(rtol, atol)].concat();
+            let said: Vec<Vec<f64>> = (0..ROUNDS).map(|_| fields(&driver, &input)).collect();
+            let best = said.iter().map(|s| s[0]).fold(f64::INFINITY, f64::min);
+            let error = |y: &[f64]| y.iter().zip(&exact).map(|(y, e)| (y - e).abs() / (atol + rtol * e.abs())).fold(0.0, f64::max);
+            println!(
+                "{:<30} {rtol:>5e} {:>10.1} {:>10} {:>12.2} {:>10.2}",
+                problem.what, best / times as f64 / 1e3, said[0][1], error(&said[0][2..]), error(&ours.last)
+            );
+        }
+    }
+}
+
+fn one_run(dir: &Path, problem: &Problem, rtol: f64, atol: f64) {
+    let (patched, unaltered) = (rust::patched(problem, rtol, atol, false), rust::unaltered(problem, rtol, atol, false));
+    let times = (20_000_000 / ((300 + 150 * problem.y0.len() as u64) * patched.attempts)).max(1);
+    let input = [&[times][..], &problem.words(rtol, atol)].concat();
+    let (mut expected, mut best, mut same) = (0.0, [f64::INFINITY; 3], true);
+    for _ in 0..times {
+        expected += patched.sum;
+    }
+    let timed = |run: &dyn Fn() -> f64| {
+        let start = nanoseconds();
+        for _ in 0..times {
+            black_box(run());
+        }
+        (nanoseconds() - start) as f64
+    };
+    for _ in 0..ROUNDS {
+        let (ns, sum) = drive(&dir.join("problems"), &input);
+        same &= sum.to_bits() == expected.to_bits();
+        let round = [ns, timed(&|| rust::patched(problem, rtol, atol, false).sum), timed(&|| rust::unaltered(problem, rtol, atol, false).sum)];
+        best = std::array::from_fn(|i| best[i].min(round[i] / times as f64));
+    }
+    let attempts = [patched.attempts, patched.attempts, unaltered.attempts];
+    let each: [f64; 3] = std::array::from_fn(|i| best[i] / attempts[i] as f64);
+    println!(
+        "{:<30} {rtol:>5e} {:>8} {:>10.1}{:>10.1}{:>10.1} {:>10.1}{:>10.1}{:>10.1} {:>8.2}{:>9.2}  {}",
+        problem.what, patched.attempts, best[0] / 1e3, best[1] / 1e3, best[2] / 1e3, each[0], each[1], each[2],
+        best[0] / best[1], best[0] / best[2], if same { "yes" } else { "NO" }
+    );
 }

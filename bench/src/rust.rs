@@ -1,4 +1,5 @@
 //! The Rust's side: the published library as it is (`ivp`), and for whole runs also with document 01's powers put in.
+use crate::problems::Problem;
 use ivp::matrix::{Matrix, lin_solve, lu_decomp};
 use ivp::methods::BDF;
 use std::hint::black_box;
@@ -43,57 +44,54 @@ pub fn interpolate(xi: f64, cont: &[f64], xold: f64, h: f64, n: usize) -> f64 {
     })
 }
 
-pub struct Job {
-    pub a: Vec<f64>,
-    pub y0: Vec<f64>,
-    pub x0: f64,
-    pub xend: f64,
-    pub first_step: f64,
-    pub rtol: f64,
-    pub atol: f64,
+/// What a run came to: its attempts, the sum of the first component over the steps that it told, and where it was asked for the
+/// state at the last of them.
+pub struct Done {
+    pub attempts: u64,
+    pub sum: f64,
+    pub last: Vec<f64>,
 }
 
-/// A run of y' = A y by one build of the library: the attempts, and the sum of the first component over all steps.
+/// A run of a problem by one build of the library, with an automatic start; `keeps` asks for the last state.
 macro_rules! run_by {
     ($name:ident, $ivp:ident) => {
-        pub fn $name(job: &Job) -> (u64, f64) {
+        pub fn $name(problem: &Problem, rtol: f64, atol: f64, keeps: bool) -> Done {
             use $ivp::{dense::StepInterpolant, ivp::FirstOrderSystem, matrix::Matrix, methods::BDF, solout::ControlFlag, solout::SolOut};
 
-            struct System<'a>(&'a [f64]);
+            struct System<'a>(&'a Problem);
             impl FirstOrderSystem for System<'_> {
-                fn derivative(&self, _: f64, y: &[f64], dydx: &mut [f64]) {
-                    let n = y.len();
-                    for r in 0..n {
-                        let mut sum = 0.0;
-                        for c in 0..n {
-                            sum += self.0[r * n + c] * y[c];
-                        }
-                        dydx[r] = sum;
-                    }
+                fn derivative(&self, x: f64, y: &[f64], dydx: &mut [f64]) {
+                    self.0.derivative(x, y, dydx);
                 }
 
-                fn jac(&self, _: f64, _: &[f64], j: &mut Matrix) {
-                    j.data.copy_from_slice(self.0);
+                fn jac(&self, x: f64, y: &[f64], j: &mut Matrix) {
+                    self.0.jacobian(x, y, &mut j.data);
                 }
             }
 
-            struct Sum(f64);
+            struct Sum {
+                keeps: bool,
+                sum: f64,
+                last: Vec<f64>,
+            }
             impl SolOut for Sum {
                 fn solout(&mut self, _: f64, _: &mut f64, y: &mut [f64], interpolant: Option<&StepInterpolant<'_>>) -> ControlFlag {
                     if interpolant.is_some() {
-                        self.0 += y[0];
+                        self.sum += y[0];
+                        if self.keeps {
+                            self.last = y.to_vec();
+                        }
                     }
                     ControlFlag::Continue
                 }
             }
 
-            let solver = BDF { first_step: Some(job.first_step), ..BDF::default() };
-            let mut sum = Sum(0.0);
-            let done = solver.solve(&System(&job.a), job.x0, &job.y0, job.xend, job.rtol.into(), job.atol.into(), Some(&mut sum)).unwrap();
-            (done.steps.total as u64, sum.0)
+            let mut told = Sum { keeps, sum: 0.0, last: vec![] };
+            let done = BDF::default().solve(&System(problem), 0.0, &problem.y0, problem.xend, rtol.into(), atol.into(), Some(&mut told)).unwrap();
+            Done { attempts: done.steps.total as u64, sum: told.sum, last: told.last }
         }
     };
 }
 
-run_by!(run, ivp);
-run_by!(patched_run, ivp_patched);
+run_by!(unaltered, ivp);
+run_by!(patched, ivp_patched);

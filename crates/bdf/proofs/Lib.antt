@@ -1,1 +1,2 @@
 pub mod AwaitedLaws
+pub mod CoreLaws

@@ -1,21 +1,18 @@
 // The size of a step: between its bounds, and cut where it would lead past the end.
+use crate::core::Core;
 use crate::places::row;
 use crate::rescale::change_d;
 use crate::tables::alpha;
-use crate::types::Aim;
-use crate::types::Pace;
-use crate::types::Progress;
+use rules::stages::Aimed;
+use rules::types::Aim;
+use rules::types::Pace;
 ghost use mathlib.Core.Path.{_≡_};
-ghost use Prim.Native.Nat.{_+_, _*_, _≤_, _<_};
-ghost use Rattle.bdf.specs.Ready.{Room};
-ghost use Rattle.bdf.specs.State.{left, changed as changedOf};
-ghost use Rattle.bdf.specs.Attempt.{rescaledD, toHmax, toHmin, aimAt, cutAtEnd, aimed};
-
-// Where a step leads, or that the run is at its end already.
-pub enum Aimed {
-    At(Pace, Aim),
-    AtEnd,
-}
+ghost use mathlib.Core.List.{List};
+ghost use Prim.Native.Nat.{ℕ, _+_, _*_, _≤_, _<_};
+ghost use Rattle.rules.specs.Ready.{Room};
+ghost use Rattle.rules.specs.State.{left, changed as changedOf};
+ghost use Rattle.bdf.specs.Core.{whole};
+ghost use Rattle.rules.specs.Attempt.{rescaledD, toHmax, toHmin, aimAt, cutAtEnd, aimed};
 
 fn changed(h: f64) -> Pace
     ensures { λ r. ⌜ r ≡ changedOf h ⌝ }
@@ -74,9 +71,9 @@ fn aim_of(direction: f64, order: usize, x: f64, h: f64) -> Aim
     }
 }
 
-fn cut_at_end(ws: &mut [f64], p: Progress) -> Aimed
+fn cut_at_end(ws: &mut [f64], p: Core) -> Aimed
     requires { ⌜ Room (p .n) (now ws) × (1 ≤ p .order) × (p .order ≤ 5) ⌝ }
-    ensures { λ r. ⌜ left r (now (ws .exit)) ≡ cutAtEnd p (now (ws .entry)) ⌝ }
+    ensures { λ r. ⌜ ((pivot : List ℕ) → left r (now (ws .exit)) ≡ cutAtEnd (whole p pivot) (now (ws .entry))) ⌝ }
 {
     let step_to_end = number::abs(p.span.xend - p.x);
     if step_to_end == 0.0 {
@@ -88,9 +85,9 @@ fn cut_at_end(ws: &mut [f64], p: Progress) -> Aimed
     Aimed::At(changed(h), aim_of(p.span.direction, p.order, p.x, h))
 }
 
-pub(crate) fn aim(ws: &mut [f64], p: Progress) -> Aimed
+pub(crate) fn aim(ws: &mut [f64], p: Core) -> Aimed
     requires { ⌜ Room (p .n) (now ws) × (1 ≤ p .order) × (p .order ≤ 5) ⌝ }
-    ensures { λ r. ⌜ left r (now (ws .exit)) ≡ aimed p (now (ws .entry)) ⌝ }
+    ensures { λ r. ⌜ ((pivot : List ℕ) → left r (now (ws .exit)) ≡ aimed (whole p pivot) (now (ws .entry))) ⌝ }
 {
     let a = aim_of(p.span.direction, p.order, p.x, p.pace.h);
     if p.span.direction * (a.x_new - p.span.xend) > 0.0 {

@@ -1,9 +1,13 @@
 // The main loop: attempts until one says something.
-use crate::aim::Aimed;
 use crate::aim::aim;
 use crate::aim::rescale_d;
 use crate::aim::to_hmax;
 use crate::aim::to_hmin;
+use crate::core::Core;
+use crate::core::Outcome;
+use crate::core::again;
+use crate::core::end;
+use crate::core::says;
 use crate::factor::factor;
 use crate::moves::copy;
 use crate::moves::fill;
@@ -15,69 +19,23 @@ use crate::places::row;
 use crate::predict::predict;
 use crate::predict::psi;
 use crate::predict::rescale;
-use crate::types::Answer;
-use crate::types::Awaited;
-use crate::types::Newton;
-use crate::types::Pace;
-use crate::types::Progress;
-use crate::types::Run;
-use crate::types::Status;
-use crate::types::Turn;
+use rules::stages::Aimed;
+use rules::types::Answer;
+use rules::types::Awaited;
+use rules::types::Newton;
+use rules::types::Pace;
+use rules::types::Status;
 ghost use mathlib.Core.Path.{_≡_};
-ghost use Prim.Native.Nat.{_+_, _*_, _≤_, _<_};
+ghost use mathlib.Core.List.{List};
+ghost use Prim.Native.Nat.{ℕ, _+_, _*_, _≤_, _<_};
 ghost use lib.ListN.{length};
-ghost use Rattle.bdf.specs.Ready.{Room, Sane, Ready};
-ghost use Rattle.bdf.specs.State.{left, after, turn as turnOf};
-ghost use Rattle.bdf.specs.Attempt.{told, end as endOf, says as saysOf, again as againOf, halved, newtonStart, mustFactor, refactored, attemptAt, guarded, fitted, fittedAttempt, attempt as attemptOf, mainLoop};
-
-// What an attempt came to: rejected, so that the next is tried from the state in `turn`, or a turn.
-pub struct Tried {
-    pub again: bool,
-    pub turn: Turn,
-}
+ghost use Rattle.matrix.specs.Size.{maxN};
+ghost use Rattle.rules.specs.Ready.{Room, Sane, Ready};
+ghost use Rattle.rules.specs.State.{left, after};
+ghost use Rattle.bdf.specs.Core.{whole, bare, tried};
+ghost use Rattle.rules.specs.Attempt.{told, halved, newtonStart, mustFactor, refactored, attemptAt, guarded, fitted, fittedAttempt, attempt as attemptOf};
 
 const MIN_POSITIVE: f64 = 2.2250738585072014e-308;
-
-pub(crate) fn turn(answer: Answer, awaited: Awaited, p: Progress) -> Turn
-    ensures { λ r. ⌜ r ≡ turnOf answer awaited p ⌝ }
-{
-    Turn {
-        answer,
-        run: Run { awaited, at: p },
-    }
-}
-
-pub(crate) fn end(status: Status, p: Progress) -> Turn
-    ensures { λ r. ⌜ r ≡ endOf status p ⌝ }
-{
-    let h = p.span.direction * p.pace.h;
-    turn(Answer::End { status, h }, Awaited::Ended, p)
-}
-
-pub(crate) fn says(t: Turn) -> Tried
-    ensures { λ r. ⌜ r ≡ saysOf t ⌝ }
-{
-    Tried {
-        again: false,
-        turn: t,
-    }
-}
-
-pub(crate) fn again(p: Progress) -> Tried
-    ensures { λ r. ⌜ r ≡ againOf p ⌝ }
-{
-    Tried {
-        again: true,
-        turn: turn(
-            Answer::End {
-                status: Status::StepSizeTooSmall,
-                h: 0.0,
-            },
-            Awaited::Ended,
-            p,
-        ),
-    }
-}
 
 // The vector at row v into the question slice.
 pub(crate) fn tell(q: &mut [f64], ws: &[f64], n: usize, v: usize)
@@ -88,9 +46,9 @@ pub(crate) fn tell(q: &mut [f64], ws: &[f64], n: usize, v: usize)
 }
 
 // A rejection that halves the step.
-pub(crate) fn halve(ws: &mut [f64], p: Progress) -> Progress
-    requires { ⌜ Room (p .n) (now ws) × Sane p ⌝ }
-    ensures { λ r. ⌜ left r (now (ws .exit)) ≡ halved p (now (ws .entry)) ⌝ }
+pub(crate) fn halve(ws: &mut [f64], p: Core) -> Core
+    requires { ⌜ Room (p .n) (now ws) × Sane (bare p) ⌝ }
+    ensures { λ r. ⌜ ((pivot : List ℕ) → left (whole r pivot) (now (ws .exit)) ≡ halved (whole p pivot) (now (ws .entry))) ⌝ }
 {
     rescale_d(ws, p.n, p.order, 0.5);
     let mut r = p;
@@ -103,9 +61,9 @@ pub(crate) fn halve(ws: &mut [f64], p: Progress) -> Progress
     r
 }
 
-fn newton_start(ws: &mut [f64], q: &mut [f64], p: Progress) -> Tried
-    requires { ⌜ Ready p (now ws) (now q) ⌝ }
-    ensures { λ r. ⌜ after r (now (ws .exit)) (now (q .exit)) ≡ newtonStart p (now (ws .entry)) (now (q .entry)) ⌝ }
+fn newton_start(ws: &mut [f64], q: &mut [f64], p: Core) -> Outcome
+    requires { ⌜ Ready (bare p) (now ws) (now q) ⌝ }
+    ensures { λ r. ⌜ ((pivot : List ℕ) → after (tried r pivot) (now (ws .exit)) (now (q .exit)) ≡ newtonStart (whole p pivot) (now (ws .entry)) (now (q .entry))) ⌝ }
 {
     copy(ws, row(p.n, Y_PREDICT), row(p.n, Y_NEW), p.n);
     fill(ws, row(p.n, DELTA), p.n, 0.0);
@@ -118,15 +76,15 @@ fn newton_start(ws: &mut [f64], q: &mut [f64], p: Progress) -> Tried
     };
     let mut r = p;
     r.newton = newton;
-    says(turn(
+    says(
         Answer::Derivative(p.aim.x_new),
         Awaited::NewtonDerivative,
         r,
-    ))
+    )
 }
 
-fn must_factor(p: Progress) -> bool
-    ensures { λ r. ⌜ r ≡ mustFactor p ⌝ }
+fn must_factor(p: Core) -> bool
+    ensures { λ r. ⌜ ((pivot : List ℕ) → r ≡ mustFactor (whole p pivot)) ⌝ }
 {
     if !p.pace.lu_is_current {
         return true;
@@ -135,18 +93,15 @@ fn must_factor(p: Progress) -> bool
     number::abs(c - p.current_c) / number::max(number::abs(c), 1.0) > 0.1
 }
 
-fn refactor(ws: &mut [f64], q: &mut [f64], p: Progress) -> Tried
-    requires { ⌜ Ready p (now ws) (now q) × (p .evals .lu < p .steps .total) ⌝ }
-    ensures { λ r. ⌜ after r (now (ws .exit)) (now (q .exit)) ≡ refactored p (now (ws .entry)) (now (q .entry)) ⌝ }
+fn refactor(ws: &mut [f64], q: &mut [f64], pivot: &mut [usize], p: Core) -> Outcome
+    requires { ⌜ Ready (bare p) (now ws) (now q) × (p .evals .lu < p .steps .total) × (maxN ≤ length (now pivot)) ⌝ }
+    ensures { λ r. ⌜ after (tried r (now (pivot .exit))) (now (ws .exit)) (now (q .exit)) ≡ refactored (whole p (now (pivot .entry))) (now (ws .entry)) (now (q .entry)) ⌝ }
 {
-    let old = p.pivot;
-    let f = factor(ws, p.n, p.aim.c, old);
-    let pivot = f.pivot;
+    let ok = factor(ws, p.n, p.aim.c, pivot);
     let mut r = p;
-    r.pivot = pivot;
     let lu = p.evals.lu + 1;
     r.evals.lu = lu;
-    if f.ok {
+    if ok {
         r.pace.lu_is_current = true;
         r.current_c = p.aim.c;
         return newton_start(ws, q, r);
@@ -154,80 +109,68 @@ fn refactor(ws: &mut [f64], q: &mut [f64], p: Progress) -> Tried
     again(halve(ws, r))
 }
 
-fn attempt_at(ws: &mut [f64], q: &mut [f64], p: Progress) -> Tried
-    requires { ⌜ Ready p (now ws) (now q) × (p .evals .lu < p .steps .total) ⌝ }
-    ensures { λ r. ⌜ after r (now (ws .exit)) (now (q .exit)) ≡ attemptAt p (now (ws .entry)) (now (q .entry)) ⌝ }
+fn attempt_at(ws: &mut [f64], q: &mut [f64], pivot: &mut [usize], p: Core) -> Outcome
+    requires { ⌜ Ready (bare p) (now ws) (now q) × (p .evals .lu < p .steps .total) × (maxN ≤ length (now pivot)) ⌝ }
+    ensures { λ r. ⌜ after (tried r (now (pivot .exit))) (now (ws .exit)) (now (q .exit)) ≡ attemptAt (whole p (now (pivot .entry))) (now (ws .entry)) (now (q .entry)) ⌝ }
 {
     predict(ws, p.n, p.order);
     rescale(ws, p.n, Y_PREDICT);
     psi(ws, p.n, p.order);
     if must_factor(p) {
-        return refactor(ws, q, p);
+        return refactor(ws, q, pivot, p);
     }
     newton_start(ws, q, p)
 }
 
-fn guard(ws: &mut [f64], q: &mut [f64], p: Progress) -> Tried
-    requires { ⌜ Ready p (now ws) (now q) × (p .steps .total < p .limits .steps) ⌝ }
-    ensures { λ r. ⌜ after r (now (ws .exit)) (now (q .exit)) ≡ guarded p (now (ws .entry)) (now (q .entry)) ⌝ }
+fn guard(ws: &mut [f64], q: &mut [f64], pivot: &mut [usize], p: Core) -> Outcome
+    requires { ⌜ Ready (bare p) (now ws) (now q) × (p .steps .total < p .limits .steps) × (maxN ≤ length (now pivot)) ⌝ }
+    ensures { λ r. ⌜ after (tried r (now (pivot .exit))) (now (ws .exit)) (now (q .exit)) ≡ guarded (whole p (now (pivot .entry))) (now (ws .entry)) (now (q .entry)) ⌝ }
 {
     if p.x + 0.1 * number::abs(p.aim.h_signed) == p.x {
-        return says(end(Status::StepSizeTooSmall, p));
+        return end(Status::StepSizeTooSmall, p);
     }
     let mut r = p;
     let total = p.steps.total + 1;
     r.steps.total = total;
-    attempt_at(ws, q, r)
+    attempt_at(ws, q, pivot, r)
 }
 
-fn fit(ws: &mut [f64], p: Progress) -> Pace
-    requires { ⌜ Room (p .n) (now ws) × Sane p ⌝ }
-    ensures { λ r. ⌜ left r (now (ws .exit)) ≡ fitted p (now (ws .entry)) ⌝ }
+fn fit(ws: &mut [f64], p: Core) -> Pace
+    requires { ⌜ Room (p .n) (now ws) × Sane (bare p) ⌝ }
+    ensures { λ r. ⌜ ((pivot : List ℕ) → left r (now (ws .exit)) ≡ fitted (whole p pivot) (now (ws .entry))) ⌝ }
 {
     let pace = p.pace;
     let a = to_hmax(ws, p.n, p.order, p.span.hmax, pace);
     to_hmin(ws, p.n, p.order, p.span.hmin, a)
 }
 
-fn fitted_attempt(ws: &mut [f64], q: &mut [f64], p: Progress) -> Tried
-    requires { ⌜ Ready p (now ws) (now q) × (p .steps .total < p .limits .steps) ⌝ }
-    ensures { λ r. ⌜ after r (now (ws .exit)) (now (q .exit)) ≡ fittedAttempt p (now (ws .entry)) (now (q .entry)) ⌝ }
+fn fitted_attempt(ws: &mut [f64], q: &mut [f64], pivot: &mut [usize], p: Core) -> Outcome
+    requires { ⌜ Ready (bare p) (now ws) (now q) × (p .steps .total < p .limits .steps) × (maxN ≤ length (now pivot)) ⌝ }
+    ensures { λ r. ⌜ after (tried r (now (pivot .exit))) (now (ws .exit)) (now (q .exit)) ≡ fittedAttempt (whole p (now (pivot .entry))) (now (ws .entry)) (now (q .entry)) ⌝ }
 {
     let pace = fit(ws, p);
     let mut r = p;
     r.pace = pace;
     let a = aim(ws, r);
     match a {
-        Aimed::AtEnd => says(end(Status::Success, r)),
+        Aimed::AtEnd => end(Status::Success, r),
         Aimed::At(pace, aim) => {
             r.pace = pace;
             r.aim = aim;
-            guard(ws, q, r)
+            guard(ws, q, pivot, r)
         }
     }
 }
 
-fn attempt(ws: &mut [f64], q: &mut [f64], p: Progress) -> Tried
-    requires { ⌜ Ready p (now ws) (now q) ⌝ }
-    ensures { λ r. ⌜ after r (now (ws .exit)) (now (q .exit)) ≡ attemptOf p (now (ws .entry)) (now (q .entry)) ⌝ }
+pub(crate) fn attempt(ws: &mut [f64], q: &mut [f64], pivot: &mut [usize], p: Core) -> Outcome
+    requires { ⌜ Ready (bare p) (now ws) (now q) × (maxN ≤ length (now pivot)) ⌝ }
+    ensures { λ r. ⌜ after (tried r (now (pivot .exit))) (now (ws .exit)) (now (q .exit)) ≡ attemptOf (whole p (now (pivot .entry))) (now (ws .entry)) (now (q .entry)) ⌝ }
 {
     if p.limits.steps <= p.steps.total {
-        return says(end(Status::NeedLargerNMax, p));
+        return end(Status::NeedLargerNMax, p);
     }
     if p.pace.h < MIN_POSITIVE {
-        return says(end(Status::StepSizeTooSmall, p));
+        return end(Status::StepSizeTooSmall, p);
     }
-    fitted_attempt(ws, q, p)
-}
-
-pub(crate) fn main_loop(ws: &mut [f64], q: &mut [f64], p: Progress) -> Turn
-    requires { ⌜ Ready p (now ws) (now q) ⌝ }
-    ensures { λ r. ⌜ after r (now (ws .exit)) (now (q .exit)) ≡ mainLoop p (now (ws .entry)) (now (q .entry)) ⌝ }
-{
-    let mut t = attempt(ws, q, p);
-    while t.again {
-        let s = t.turn.run.at;
-        t = attempt(ws, q, s);
-    }
-    t.turn
+    fitted_attempt(ws, q, pivot, p)
 }

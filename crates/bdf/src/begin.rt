@@ -1,8 +1,7 @@
 // The beginning: past the checks, what `solve` computes before its first derivative, and the first question.
-use crate::checks::Check;
+use crate::attempt::tell;
 use crate::checks::checked;
 use crate::checks::entry;
-use crate::limits::MAX_N;
 use crate::moves::fill;
 use crate::moves::load;
 use crate::order::infinity;
@@ -12,36 +11,37 @@ use crate::places::RTOL;
 use crate::places::Y;
 use crate::places::row;
 use crate::predict::EPSILON;
-use crate::reply::ask_derivative;
-use crate::settings::BDF;
-use crate::types::Aim;
-use crate::types::Answer;
-use crate::types::Awaited;
-use crate::types::Evals;
-use crate::types::Limits;
-use crate::types::Newton;
-use crate::types::Pace;
-use crate::types::Progress;
-use crate::types::Refusal;
-use crate::types::Run;
-use crate::types::Setting;
-use crate::types::Span;
-use crate::types::Status;
-use crate::types::Steps;
-use crate::types::Tolerance;
-use crate::types::Turn;
+use matrix::MAX_N;
+use rules::settings::BDF;
+use rules::stages::Check;
+use rules::types::Aim;
+use rules::types::Answer;
+use rules::types::Awaited;
+use rules::types::Evals;
+use rules::types::Limits;
+use rules::types::Newton;
+use rules::types::Pace;
+use rules::types::Progress;
+use rules::types::Refusal;
+use rules::types::Run;
+use rules::types::Setting;
+use rules::types::Span;
+use rules::types::Status;
+use rules::types::Steps;
+use rules::types::Tolerance;
+use rules::types::Turn;
 ghost use mathlib.Core.Path.{_≡_};
 ghost use Prim.Native.Nat.{_+_, _*_, _≤_, _<_};
 ghost use mathlib.Core.Bool.{true};
 ghost use Prim.Native.Nat.{max};
 ghost use lib.ListN.{length};
-ghost use Rattle.bdf.specs.Ready.{Room};
-ghost use Rattle.bdf.specs.State.{after, turn};
-ghost use Rattle.bdf.specs.Types.{Ended};
-ghost use Rattle.bdf.specs.Places.{need as needOf};
-ghost use Rattle.bdf.specs.Checks.{reaches as reachesOf};
-ghost use Rattle.bdf.specs.Begin.{orGiven, least as leastOf, derivedTol, newtonTol, spanOf, fresh as freshOf, kept as keptOf, nothing as nothingOf, tolerances, beginWs, askFirst, beginRun, beginOf};
-ghost use Rattle.bdf.specs.Limits.{maxN};
+ghost use Rattle.rules.specs.Ready.{Room};
+ghost use Rattle.rules.specs.State.{after, turn};
+ghost use Rattle.rules.specs.declared.types.Awaited.the-variants.{Ended};
+ghost use Rattle.rules.specs.Places.{need as needOf};
+ghost use Rattle.rules.specs.Checks.{reaches as reachesOf};
+ghost use Rattle.rules.specs.Begin.{orGiven, least as leastOf, derivedTol, newtonTol, spanOf, fresh as freshOf, kept as keptOf, nothing as nothingOf, tolerances, beginWs, askFirst, beginRun, beginOf};
+ghost use Rattle.matrix.specs.Size.{maxN};
 
 fn or_given(s: Setting, other: f64) -> f64
     ensures { λ r. ⌜ r ≡ orGiven s other ⌝ }
@@ -205,7 +205,14 @@ fn ask_first(
     ensures { λ r. ⌜ after r (now (ws .exit)) (now (q .exit)) ≡ askFirst p (now (y0 .entry)) rtol (now (rtols .entry)) atol (now (atols .entry)) (now (ws .entry)) (now (q .entry)) ⌝ }
 {
     lay(ws, y0, rtol, rtols, atol, atols);
-    ask_derivative(ws, q, Awaited::FirstDerivative, p)
+    tell(q, ws, p.n, Y);
+    Turn {
+        answer: Answer::Derivative(p.x),
+        run: Run {
+            awaited: Awaited::FirstDerivative,
+            at: p,
+        },
+    }
 }
 
 // What a run keeps from its beginning on.

@@ -1,22 +1,17 @@
 // The checks of a beginning, in their order.
 use crate::places::ROWS;
 use crate::places::row;
-use crate::settings::BDF;
-use crate::types::Kind;
-use crate::types::Refusal;
-use crate::types::Setting;
-use crate::types::Tolerance;
+use rules::settings::BDF;
+use rules::stages::Check;
+use rules::types::Kind;
+use rules::types::Refusal;
+use rules::types::Setting;
+use rules::types::Tolerance;
 ghost use mathlib.Core.Path.{_≡_};
 ghost use Prim.Native.Nat.{_+_, _≤_};
 ghost use mathlib.Core.Bool.{true};
-ghost use Rattle.bdf.specs.Limits.{maxN};
-ghost use Rattle.bdf.specs.Checks.{entry as entryOf, reaches as reachesOf, negative as negativeOf, zeroStep, limited as limitedOf, tolerancesChecked, checked as checkedOf};
-
-// What the checks say.
-pub enum Check {
-    Refuse(Refusal),
-    Passed,
-}
+ghost use Rattle.matrix.specs.Size.{maxN};
+ghost use Rattle.rules.specs.Checks.{entry as entryOf, reaches as reachesOf, negative as negativeOf, zeroStep, limited as limitedOf, tolerancesChecked, checked as checkedOf};
 
 pub(crate) fn entry(t: Tolerance, values: &[f64], i: usize) -> f64
     requires { ⌜ reachesOf t (now values) (i + 1) ≡ true ⌝ }

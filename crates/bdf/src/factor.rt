@@ -6,14 +6,10 @@ use matrix::Factoring;
 ghost use mathlib.Core.Path.{_≡_};
 ghost use Prim.Native.Nat.{_≤_, _<_};
 ghost use lib.ListN.{length};
-ghost use Rattle.bdf.specs.Ready.{Room};
-ghost use Rattle.bdf.specs.State.{left};
-ghost use Rattle.bdf.specs.Factor.{matrixCells, diagonal as diagonalOf, matrix as matrixOf, factored};
-
-pub struct Factors {
-    pub ok: bool,
-    pub pivot: [usize; 32],
-}
+ghost use Rattle.rules.specs.Ready.{Room};
+ghost use Rattle.rules.specs.State.{left};
+ghost use Rattle.bdf.specs.Core.{factors};
+ghost use Rattle.rules.specs.Factor.{matrixCells, diagonal as diagonalOf, matrix as matrixOf, factored};
 
 fn matrix_cells(ws: &mut [f64], n: usize, c: f64, r: usize)
     requires { ⌜ Room n (now ws) × (r < n) ⌝ }
@@ -47,27 +43,17 @@ fn matrix_rows(ws: &mut [f64], n: usize, c: f64)
     }
 }
 
-pub(crate) fn factor(ws: &mut [f64], n: usize, c: f64, pivot: [usize; 32]) -> Factors
-    requires { ⌜ Room n (now ws) ⌝ }
-    ensures { λ r. ⌜ left r (now (ws .exit)) ≡ factored n c pivot (now (ws .entry)) ⌝ }
+pub(crate) fn factor(ws: &mut [f64], n: usize, c: f64, pivot: &mut [usize]) -> bool
+    requires { ⌜ Room n (now ws) × (n ≤ length (now pivot)) ⌝ }
+    ensures { λ r. ⌜ left (factors r (now (pivot .exit))) (now (ws .exit)) ≡ factored n c (now (pivot .entry)) (now (ws .entry)) ⌝ }
 {
     matrix_rows(ws, n, c);
-    let mut ip = pivot;
     let from = n * n;
     let to = n * n + n * n;
-    let answer = matrix::lu_decomp(&mut ws[from..to], &mut ip[..n]);
+    let answer = matrix::lu_decomp(&mut ws[from..to], &mut pivot[..n]);
     match answer {
-        Factoring::Factored => Factors {
-            ok: true,
-            pivot: ip,
-        },
-        Factoring::WrongSize => Factors {
-            ok: false,
-            pivot: ip,
-        },
-        Factoring::Singular => Factors {
-            ok: false,
-            pivot: ip,
-        },
+        Factoring::Factored => true,
+        Factoring::WrongSize => false,
+        Factoring::Singular => false,
     }
 }

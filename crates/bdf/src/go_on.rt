@@ -1,29 +1,36 @@
 // Going on: the checks on what is handed back, in their order, then the run to its next answer.
-use crate::checks::Check;
-use crate::limits::MAX_N;
+use crate::core::Core;
+use crate::core::Outcome;
+use crate::core::says;
+use crate::core::turn;
+use crate::core::without_pivots;
 use crate::places::ROWS;
 use crate::places::row;
-use crate::reply::replied;
-use crate::types::Answer;
-use crate::types::Awaited;
-use crate::types::Progress;
-use crate::types::Refusal;
-use crate::types::Reply;
-use crate::types::Run;
-use crate::types::Turn;
+use crate::run::run;
+use matrix::MAX_N;
+use rules::stages::Check;
+use rules::stages::Wants;
+use rules::types::Answer;
+use rules::types::Awaited;
+use rules::types::Progress;
+use rules::types::Refusal;
+use rules::types::Reply;
+use rules::types::Run;
+use rules::types::Turn;
 ghost use mathlib.Core.Path.{_≡_};
 ghost use mathlib.Core.Bool.{false};
 ghost use Prim.Native.Nat.{_+_, _*_, _≤_, _<_};
 ghost use lib.ListN.{length};
-ghost use Rattle.bdf.specs.Limits.{maxN};
-ghost use Rattle.bdf.specs.Ready.{Handed};
-ghost use Rattle.bdf.specs.State.{after};
-ghost use Rattle.bdf.specs.Replies.{awaitsNewton, isEnded, wordWants, valuesWant, wants};
-ghost use Rattle.bdf.specs.GoOn.{pivotOutside, limitsDamaged, stepsDamaged, countersDamaged, damagedAbove0, damaged as damagedOf, countChecked, goChecked, goWithin, goOn};
+ghost use Rattle.matrix.specs.Size.{maxN};
+ghost use Rattle.rules.specs.Ready.{Handed};
+ghost use Rattle.rules.specs.State.{after};
+ghost use Rattle.rules.specs.Replies.{awaitsNewton, isEnded, wordWants, valuesWant, wants};
+ghost use Rattle.bdf.specs.Core.{whole, bare, turnOf};
+ghost use Rattle.rules.specs.GoOn.{pivotOutside, limitsDamaged, stepsDamaged, countersDamaged, damagedAbove0, damaged as damagedOf, countChecked, goChecked, goWithin, goOn};
 
-fn pivot_outside(n: usize, pivot: [usize; 32]) -> bool
-    requires { ⌜ n ≤ maxN ⌝ }
-    ensures { λ r. ⌜ r ≡ pivotOutside n pivot ⌝ }
+fn pivot_outside(n: usize, pivot: &[usize]) -> bool
+    requires { ⌜ n ≤ length (now pivot) ⌝ }
+    ensures { λ r. ⌜ r ≡ pivotOutside n (now (pivot .entry)) ⌝ }
 {
     let mut i = 0;
     while i + 1 < n {
@@ -113,8 +120,8 @@ fn is_ended(w: Awaited) -> bool
     }
 }
 
-fn damaged_above_0(w: Awaited, p: Progress) -> bool
-    requires { ⌜ p .n ≤ maxN ⌝ }
+fn damaged_above_0(w: Awaited, p: Progress, pivot: &[usize]) -> bool
+    requires { ⌜ (p .n ≤ length (now pivot)) × (now pivot ≡ p .pivot) ⌝ }
     ensures { λ r. ⌜ r ≡ damagedAbove0 w p ⌝ }
 {
     if p.order < 1 {
@@ -126,7 +133,6 @@ fn damaged_above_0(w: Awaited, p: Progress) -> bool
     if limits_damaged(p) {
         return true;
     }
-    let pivot = p.pivot;
     if pivot_outside(p.n, pivot) {
         return true;
     }
@@ -139,7 +145,8 @@ fn damaged_above_0(w: Awaited, p: Progress) -> bool
     false
 }
 
-fn damaged(w: Awaited, p: Progress) -> bool
+fn damaged(w: Awaited, p: Progress, pivot: &[usize]) -> bool
+    requires { ⌜ (length (now pivot) ≡ maxN) × (now pivot ≡ p .pivot) ⌝ }
     ensures { λ r. ⌜ r ≡ damagedOf w p ⌝ }
 {
     if MAX_N < p.n {
@@ -148,13 +155,7 @@ fn damaged(w: Awaited, p: Progress) -> bool
     if p.n == 0 {
         return !is_ended(w);
     }
-    damaged_above_0(w, p)
-}
-
-// How many values a reply that suits the place must bring; or that it does not suit.
-pub enum Wants {
-    Count(usize),
-    Unsuited,
+    damaged_above_0(w, p, pivot)
 }
 
 fn word(n: usize, r: Reply) -> Wants
@@ -220,14 +221,16 @@ fn count_checked(v: Wants, n: usize, given: usize, room: usize, questions: usize
 fn go_checked(
     w: Awaited,
     p: Progress,
+    pivot: &[usize],
     r: Reply,
     given: usize,
     room: usize,
     questions: usize,
 ) -> Check
+    requires { ⌜ (length (now pivot) ≡ maxN) × (now pivot ≡ p .pivot) ⌝ }
     ensures { λ x. ⌜ x ≡ goChecked w p r given room questions ⌝ }
 {
-    if damaged(w, p) {
+    if damaged(w, p, pivot) {
         return Check::Refuse(Refusal::Damaged);
     }
     if is_ended(w) {
@@ -240,17 +243,38 @@ fn go_checked(
 // The run from the reply to its next answer, on the needed places alone.
 fn go_within(
     w: Awaited,
-    p: Progress,
+    p: Core,
+    pivot: &mut [usize],
     reply: Reply,
     values: &[f64],
     ws: &mut [f64],
     q: &mut [f64],
-) -> Turn
-    requires { ⌜ Handed w p reply (now values) (now ws) (now q) ⌝ }
-    ensures { λ r. ⌜ after r (now (ws .exit)) (now (q .exit)) ≡ goWithin w p reply (now (values .entry)) (now (ws .entry)) (now (q .entry)) ⌝ }
+) -> Outcome
+    requires { ⌜ Handed w (bare p) reply (now values) (now ws) (now q) × (maxN ≤ length (now pivot)) ⌝ }
+    ensures { λ r. ⌜ after (turnOf r (now (pivot .exit))) (now (ws .exit)) (now (q .exit)) ≡ goWithin w (whole p (now (pivot .entry))) reply (now (values .entry)) (now (ws .entry)) (now (q .entry)) ⌝ }
 {
     let need = row(p.n, ROWS);
-    replied(&mut ws[..need], q, w, p, reply, values)
+    run(&mut ws[..need], q, pivot, w, p, reply, values)
+}
+
+// The state's pivots stand in an array of their own from here on.
+fn go_said(
+    w: Awaited,
+    p: Progress,
+    pivot: &mut [usize],
+    reply: Reply,
+    values: &[f64],
+    ws: &mut [f64],
+    q: &mut [f64],
+) -> Outcome
+    requires { ⌜ (length (now pivot) ≡ maxN) × (now pivot ≡ p .pivot) ⌝ }
+    ensures { λ r. ⌜ after (turnOf r (now (pivot .exit))) (now (ws .exit)) (now (q .exit)) ≡ goOn (record { awaited = w; at = p }) reply (now (values .entry)) (now (ws .entry)) (now (q .entry)) ⌝ }
+{
+    let c = go_checked(w, p, pivot, reply, values.len(), ws.len(), q.len());
+    match c {
+        Check::Refuse(why) => says(Answer::Refused(why), w, without_pivots(p)),
+        Check::Passed => go_within(w, without_pivots(p), pivot, reply, values, ws, q),
+    }
 }
 
 pub fn go_on(run: Run, reply: Reply, values: &[f64], ws: &mut [f64], q: &mut [f64]) -> Turn
@@ -258,12 +282,7 @@ pub fn go_on(run: Run, reply: Reply, values: &[f64], ws: &mut [f64], q: &mut [f6
 {
     let w = run.awaited;
     let p = run.at;
-    let c = go_checked(w, p, reply, values.len(), ws.len(), q.len());
-    match c {
-        Check::Refuse(why) => Turn {
-            answer: Answer::Refused(why),
-            run,
-        },
-        Check::Passed => go_within(w, p, reply, values, ws, q),
-    }
+    let mut pivot = p.pivot;
+    let s = go_said(w, p, &mut pivot, reply, values, ws, q);
+    turn(s, pivot)
 }

@@ -10,9 +10,9 @@ use crate::places::put;
 use crate::places::row;
 ghost use mathlib.Core.Path.{_≡_};
 ghost use Prim.Native.Nat.{_+_, _*_, _≤_, _<_};
-ghost use Rattle.bdf.specs.Ready.{Room};
+ghost use Rattle.rules.specs.Ready.{Room};
 ghost use lib.ListN.{set};
-ghost use Rattle.bdf.specs.Judge.{coefficient as place, safetyOf, weighed, newest as newestOf, addNext, summed, coeff, coeffs, prepared, acceptedWs};
+ghost use Rattle.rules.specs.Judge.{coefficient as place, safetyOf, weighed, newest as newestOf, addNext, summed, coeff, coeffs, prepared, acceptedWs};
 
 pub(crate) fn safety(m: usize, iters: usize) -> f64
     requires { ⌜ (m ≤ 64) × (iters ≤ 64) ⌝ }

@@ -2,7 +2,7 @@
 ghost use mathlib.Core.Path.{_≡_};
 ghost use Prim.Native.Nat.{_+_, _≤_};
 ghost use lib.ListN.{length};
-ghost use Rattle.bdf.specs.Moves.{copied, filled, loaded};
+ghost use Rattle.rules.specs.Moves.{copied, filled, loaded};
 
 // count places from `to` on take those from `from` on.
 pub(crate) fn copy(l: &mut [f64], from: usize, to: usize, count: usize)

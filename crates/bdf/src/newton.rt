@@ -10,8 +10,8 @@ use crate::places::row;
 ghost use mathlib.Core.Path.{_≡_};
 ghost use Prim.Native.Nat.{_+_, _*_, _≤_, _<_};
 ghost use lib.ListN.{length};
-ghost use Rattle.bdf.specs.Ready.{Room};
-ghost use Rattle.bdf.specs.Newton.{residual as residualOf, solved, correction, advancedAt, advanced, power as powerOf, tooSlow, settled as settledOf, converged as convergedOf, gaveUp};
+ghost use Rattle.rules.specs.Ready.{Room};
+ghost use Rattle.rules.specs.Newton.{residual as residualOf, solved, correction, advancedAt, advanced, power as powerOf, tooSlow, settled as settledOf, converged as convergedOf, gaveUp};
 
 fn residual(ws: &mut [f64], n: usize, c: f64)
     requires { ⌜ Room n (now ws) ⌝ }
@@ -26,9 +26,9 @@ fn residual(ws: &mut [f64], n: usize, c: f64)
 }
 
 // With b, n numbers, for the right side: lin_solve changes it while it reads the matrix of the same workspace.
-fn solve_by(ws: &mut [f64], b: &mut [f64], n: usize, pivot: [usize; 32])
-    requires { ⌜ Room n (now ws) × (length (now b) ≡ n) ⌝ }
-    ensures { λ _. ⌜ now (ws .exit) ≡ solved n pivot (now (ws .entry)) ⌝ }
+fn solve_by(ws: &mut [f64], b: &mut [f64], n: usize, pivot: &[usize])
+    requires { ⌜ Room n (now ws) × (length (now b) ≡ n) × (n ≤ length (now pivot)) ⌝ }
+    ensures { λ _. ⌜ now (ws .exit) ≡ solved n (now (pivot .entry)) (now (ws .entry)) ⌝ }
 {
     let at = row(n, RHS);
     let from = n * n;
@@ -38,18 +38,18 @@ fn solve_by(ws: &mut [f64], b: &mut [f64], n: usize, pivot: [usize; 32])
     load(ws, b, 0, at, n);
 }
 
-fn solve(ws: &mut [f64], n: usize, pivot: [usize; 32])
-    requires { ⌜ Room n (now ws) ⌝ }
-    ensures { λ _. ⌜ now (ws .exit) ≡ solved n pivot (now (ws .entry)) ⌝ }
+fn solve(ws: &mut [f64], n: usize, pivot: &[usize])
+    requires { ⌜ Room n (now ws) × (n ≤ length (now pivot)) ⌝ }
+    ensures { λ _. ⌜ now (ws .exit) ≡ solved n (now (pivot .entry)) (now (ws .entry)) ⌝ }
 {
     let mut b = [0.0; 32];
     solve_by(ws, &mut b[..n], n, pivot);
 }
 
 // The correction: from the derivative's values to the solution of the linear system, in rhs.
-pub(crate) fn correct(ws: &mut [f64], n: usize, c: f64, pivot: [usize; 32], values: &[f64])
-    requires { ⌜ Room n (now ws) × (n ≤ length (now values)) ⌝ }
-    ensures { λ _. ⌜ now (ws .exit) ≡ correction n c pivot (now (values .entry)) (now (ws .entry)) ⌝ }
+pub(crate) fn correct(ws: &mut [f64], n: usize, c: f64, pivot: &[usize], values: &[f64])
+    requires { ⌜ Room n (now ws) × (n ≤ length (now values)) × (n ≤ length (now pivot)) ⌝ }
+    ensures { λ _. ⌜ now (ws .exit) ≡ correction n c (now (pivot .entry)) (now (values .entry)) (now (ws .entry)) ⌝ }
 {
     load(ws, values, 0, row(n, RHS), n);
     residual(ws, n, c);

@@ -5,8 +5,8 @@ use crate::places::get;
 use crate::predict::EPSILON;
 ghost use mathlib.Core.Path.{_≡_};
 ghost use Prim.Native.Nat.{_≤_, _<_};
-ghost use Rattle.bdf.specs.Ready.{Room};
-ghost use Rattle.bdf.specs.Norm.{squareOf, sumOfSquares, rhsNorm};
+ghost use Rattle.rules.specs.Ready.{Room};
+ghost use Rattle.rules.specs.Norm.{squareOf, sumOfSquares, rhsNorm};
 
 fn square(v: f64, s: f64) -> f64
     ensures { λ r. ⌜ r ≡ squareOf v s ⌝ }

@@ -3,19 +3,15 @@ use crate::judge::weigh;
 use crate::norm::rhs_norm;
 use crate::tables::error_const;
 use number::Root;
+use rules::stages::Choice;
 ghost use mathlib.Core.Path.{_≡_};
 ghost use Prim.Native.Nat.{_+_, _*_, _≤_, _<_};
 ghost use lib.Ieee.{inf};
 ghost use mathlib.Core.Bool.{false};
-ghost use Rattle.bdf.specs.Ready.{Room};
-ghost use Rattle.bdf.specs.State.{left};
+ghost use Rattle.rules.specs.Ready.{Room};
+ghost use Rattle.rules.specs.State.{left};
 ghost use Rattle.number.specs.Roots.{inverseRoot};
-ghost use Rattle.bdf.specs.Order.{errorAt, errM, errP, bestOf, newOrder, stepFactor, choiceOf};
-
-pub struct Choice {
-    pub order: usize,
-    pub factor: f64,
-}
+ghost use Rattle.rules.specs.Order.{errorAt, errM, errP, bestOf, newOrder, stepFactor, choiceOf};
 
 pub(crate) fn infinity() -> f64
     ensures { λ r. ⌜ r ≡ inf false ⌝ }

@@ -2,9 +2,9 @@
 // factored matrix (n * n) come first, by rows; then 33 rows of n, each area named by its first row.
 ghost use mathlib.Core.Path.{_≡_};
 ghost use Prim.Native.Nat.{_+_, _*_, _≤_, _<_};
-ghost use Rattle.bdf.specs.Limits.{maxN};
-ghost use Rattle.bdf.specs.Ready.{Room};
-ghost use Rattle.bdf.specs.Places.{row as rowOf, get as getOf, put as putOf, jac as jacOf, lu as luOf, putLu};
+ghost use Rattle.matrix.specs.Size.{maxN};
+ghost use Rattle.rules.specs.Ready.{Room};
+ghost use Rattle.rules.specs.Places.{row as rowOf, get as getOf, put as putOf, jac as jacOf, lu as luOf, putLu};
 
 // D[k] is row k, for k from 0 to 7; the Rust's scratch_change, rows 8 to 13, is a local array here.
 pub(crate) const PSI: usize = 14;

@@ -1,14 +1,16 @@
 // A run from one reply to the next answer, by the place at which it waited.
 use crate::aim::rescale_d;
-use crate::attempt::end;
 use crate::attempt::halve;
-use crate::attempt::main_loop;
 use crate::attempt::tell;
-use crate::attempt::turn;
+use crate::core::Core;
+use crate::core::Next;
+use crate::core::Outcome;
+use crate::core::again;
+use crate::core::end;
+use crate::core::says;
 use crate::moves::copy;
 use crate::moves::fill;
 use crate::moves::load;
-use crate::order::Choice;
 use crate::order::choose;
 use crate::order::err_m;
 use crate::order::err_p;
@@ -24,36 +26,39 @@ use crate::starting::guess;
 use crate::starting::hinit;
 use crate::starting::within_span;
 use crate::step::newton_replied;
-use crate::types::Answer;
-use crate::types::Awaited;
-use crate::types::Progress;
-use crate::types::Reply;
-use crate::types::Setting;
-use crate::types::Status;
-use crate::types::Turn;
+use rules::stages::Choice;
+use rules::types::Answer;
+use rules::types::Awaited;
+use rules::types::Reply;
+use rules::types::Setting;
+use rules::types::Status;
 ghost use mathlib.Core.Path.{_≡_};
-ghost use Prim.Native.Nat.{_+_, _*_, _≤_, _<_};
+ghost use mathlib.Core.Bool.{true};
+ghost use mathlib.Core.List.{List};
+ghost use Prim.Native.Nat.{ℕ, _+_, _*_, _≤_, _<_};
 ghost use lib.ListN.{length};
-ghost use Rattle.bdf.specs.Ready.{Room, Sane, Ready, Awake, Enough, Answered};
-ghost use Rattle.bdf.specs.State.{left, after};
-ghost use Rattle.bdf.specs.Reply.{askDerivative, askJacobian, firstDifference, differences as differencesOf, started, hinitAsks, firstStep, hinitReplied, modified as modifiedOf, restarted as restartedOf, jacobianStored, outdated as outdatedOf, chosen as chosenOf, ordered as orderedOf, stepped as steppedOf, newtonTurn, failedTurn, startNoticed, stepNoticed, firstDerivative, firstJacobian, restartJacobian, stepJacobian, orderJacobian, replied as repliedOf};
+ghost use Rattle.matrix.specs.Size.{maxN};
+ghost use Rattle.rules.specs.Ready.{Room, Sane, Ready, Awake, Enough, Answered};
+ghost use Rattle.rules.specs.State.{left, after};
+ghost use Rattle.bdf.specs.Core.{whole, bare, tried, spoken, plainly, leftOver, resumed, Prepared, Resumable, restartPlace};
+ghost use Rattle.rules.specs.Reply.{askDerivative, askJacobian, firstDifference, differences as differencesOf, started, hinitAsks, firstStep, hinitReplied, modified as modifiedOf, restarted as restartedOf, jacobianStored, outdated as outdatedOf, chosen as chosenOf, ordered as orderedOf, stepped as steppedOf, failedTurn, startNoticed, stepNoticed, firstDerivative, firstJacobian, restartJacobian, stepJacobian, orderJacobian, replied as repliedOf};
 
 const MIN_POSITIVE: f64 = 2.2250738585072014e-308;
 
-pub(crate) fn ask_derivative(ws: &[f64], q: &mut [f64], awaited: Awaited, p: Progress) -> Turn
+fn ask_derivative(ws: &[f64], q: &mut [f64], awaited: Awaited, p: Core) -> Outcome
     requires { ⌜ Room (p .n) (now ws) × (8 * p .n ≤ length (now q)) ⌝ }
-    ensures { λ r. ⌜ after r (now (ws .entry)) (now (q .exit)) ≡ askDerivative awaited p (now (ws .entry)) (now (q .entry)) ⌝ }
+    ensures { λ r. ⌜ ((pivot : List ℕ) → after (tried r pivot) (now (ws .entry)) (now (q .exit)) ≡ spoken (askDerivative awaited (whole p pivot) (now (ws .entry)) (now (q .entry)))) ⌝ }
 {
     tell(q, ws, p.n, Y);
-    turn(Answer::Derivative(p.x), awaited, p)
+    says(Answer::Derivative(p.x), awaited, p)
 }
 
-fn ask_jacobian(ws: &[f64], q: &mut [f64], awaited: Awaited, p: Progress) -> Turn
+fn ask_jacobian(ws: &[f64], q: &mut [f64], awaited: Awaited, p: Core) -> Outcome
     requires { ⌜ Room (p .n) (now ws) × (8 * p .n ≤ length (now q)) ⌝ }
-    ensures { λ r. ⌜ after r (now (ws .entry)) (now (q .exit)) ≡ askJacobian awaited p (now (ws .entry)) (now (q .entry)) ⌝ }
+    ensures { λ r. ⌜ ((pivot : List ℕ) → after (tried r pivot) (now (ws .entry)) (now (q .exit)) ≡ spoken (askJacobian awaited (whole p pivot) (now (ws .entry)) (now (q .entry)))) ⌝ }
 {
     tell(q, ws, p.n, Y);
-    turn(Answer::Jacobian(p.x), awaited, p)
+    says(Answer::Jacobian(p.x), awaited, p)
 }
 
 fn first_difference(ws: &mut [f64], n: usize, h: f64, direction: f64)
@@ -77,9 +82,9 @@ fn differences(ws: &mut [f64], n: usize, h: f64, direction: f64)
     first_difference(ws, n, h, direction);
 }
 
-fn start(ws: &mut [f64], q: &mut [f64], p: Progress, h_abs: f64) -> Turn
+fn start(ws: &mut [f64], q: &mut [f64], p: Core, h_abs: f64) -> Outcome
     requires { ⌜ Room (p .n) (now ws) × (8 * p .n ≤ length (now q)) ⌝ }
-    ensures { λ r. ⌜ after r (now (ws .exit)) (now (q .exit)) ≡ started p «h_abs» (now (ws .entry)) (now (q .entry)) ⌝ }
+    ensures { λ r. ⌜ ((pivot : List ℕ) → after (tried r pivot) (now (ws .exit)) (now (q .exit)) ≡ spoken (started (whole p pivot) «h_abs» (now (ws .entry)) (now (q .entry)))) ⌝ }
 {
     let h = number::min(h_abs, number::max(p.span.hmax, MIN_POSITIVE));
     differences(ws, p.n, h, p.span.direction);
@@ -88,22 +93,22 @@ fn start(ws: &mut [f64], q: &mut [f64], p: Progress, h_abs: f64) -> Turn
     r.pace.h = h;
     r.pace.equal_steps = 0;
     r.pace.lu_is_current = false;
-    turn(Answer::Start(p.x), Awaited::StartNotice, r)
+    says(Answer::Start(p.x), Awaited::StartNotice, r)
 }
 
-fn hinit_asks(ws: &mut [f64], q: &mut [f64], p: Progress) -> Turn
+fn hinit_asks(ws: &mut [f64], q: &mut [f64], p: Core) -> Outcome
     requires { ⌜ Room (p .n) (now ws) × (8 * p .n ≤ length (now q)) ⌝ }
-    ensures { λ r. ⌜ after r (now (ws .exit)) (now (q .exit)) ≡ hinitAsks p (now (ws .entry)) (now (q .entry)) ⌝ }
+    ensures { λ r. ⌜ ((pivot : List ℕ) → after (tried r pivot) (now (ws .exit)) (now (q .exit)) ≡ spoken (hinitAsks (whole p pivot) (now (ws .entry)) (now (q .entry)))) ⌝ }
 {
     let h = guess(ws, p.n, p.span.hmax, p.span.direction);
     euler(ws, p.n, h);
     tell(q, ws, p.n, Y1);
-    turn(Answer::Derivative(p.x + h), Awaited::StartDerivative, p)
+    says(Answer::Derivative(p.x + h), Awaited::StartDerivative, p)
 }
 
-fn first_step(ws: &mut [f64], q: &mut [f64], p: Progress) -> Turn
+fn first_step(ws: &mut [f64], q: &mut [f64], p: Core) -> Outcome
     requires { ⌜ Room (p .n) (now ws) × (8 * p .n ≤ length (now q)) ⌝ }
-    ensures { λ r. ⌜ after r (now (ws .exit)) (now (q .exit)) ≡ firstStep p (p .span .«first_step») (now (ws .entry)) (now (q .entry)) ⌝ }
+    ensures { λ r. ⌜ ((pivot : List ℕ) → after (tried r pivot) (now (ws .exit)) (now (q .exit)) ≡ spoken (firstStep (whole p pivot) (p .span .«first_step») (now (ws .entry)) (now (q .entry)))) ⌝ }
 {
     let span = p.span;
     let given = span.first_step;
@@ -113,9 +118,9 @@ fn first_step(ws: &mut [f64], q: &mut [f64], p: Progress) -> Turn
     }
 }
 
-fn hinit_replied(ws: &mut [f64], q: &mut [f64], p: Progress, values: &[f64]) -> Turn
+fn hinit_replied(ws: &mut [f64], q: &mut [f64], p: Core, values: &[f64]) -> Outcome
     requires { ⌜ Room (p .n) (now ws) × (8 * p .n ≤ length (now q)) × (p .n ≤ length (now values)) ⌝ }
-    ensures { λ r. ⌜ after r (now (ws .exit)) (now (q .exit)) ≡ hinitReplied p (now (values .entry)) (now (ws .entry)) (now (q .entry)) ⌝ }
+    ensures { λ r. ⌜ ((pivot : List ℕ) → after (tried r pivot) (now (ws .exit)) (now (q .exit)) ≡ spoken (hinitReplied (whole p pivot) (now (values .entry)) (now (ws .entry)) (now (q .entry)))) ⌝ }
 {
     load(ws, values, 0, row(p.n, F1), p.n);
     let g = hinit(ws, p.n, p.span.hmax, p.span.direction);
@@ -127,12 +132,12 @@ fn modified(
     ws: &mut [f64],
     q: &mut [f64],
     awaited: Awaited,
-    p: Progress,
+    p: Core,
     x: f64,
     values: &[f64],
-) -> Turn
+) -> Outcome
     requires { ⌜ Room (p .n) (now ws) × (8 * p .n ≤ length (now q)) × (p .n ≤ length (now values)) ⌝ }
-    ensures { λ r. ⌜ after r (now (ws .exit)) (now (q .exit)) ≡ modifiedOf awaited p x (now (values .entry)) (now (ws .entry)) (now (q .entry)) ⌝ }
+    ensures { λ r. ⌜ ((pivot : List ℕ) → after (tried r pivot) (now (ws .exit)) (now (q .exit)) ≡ spoken (modifiedOf awaited (whole p pivot) x (now (values .entry)) (now (ws .entry)) (now (q .entry)))) ⌝ }
 {
     load(ws, values, 0, row(p.n, Y), p.n);
     let mut r = p;
@@ -140,9 +145,19 @@ fn modified(
     ask_derivative(ws, q, awaited, r)
 }
 
-fn restarted(ws: &mut [f64], q: &mut [f64], awaited: Awaited, p: Progress, values: &[f64]) -> Turn
-    requires { ⌜ Ready p (now ws) (now q) × Awake p × (p .n ≤ length (now values)) ⌝ }
-    ensures { λ r. ⌜ after r (now (ws .exit)) (now (q .exit)) ≡ restartedOf awaited p (now (values .entry)) (now (ws .entry)) (now (q .entry)) ⌝ }
+// The place after the derivative at a modified state.
+fn restart_place(w: Awaited) -> Awaited
+    ensures { λ r. ⌜ r ≡ restartPlace w ⌝ }
+{
+    match w {
+        Awaited::ModifiedStartDerivative => Awaited::ModifiedStartJacobian,
+        _ => Awaited::ModifiedStepJacobian,
+    }
+}
+
+fn restarted(ws: &mut [f64], q: &mut [f64], w: Awaited, p: Core, values: &[f64]) -> Outcome
+    requires { ⌜ Ready (bare p) (now ws) (now q) × Awake (bare p) × (p .n ≤ length (now values)) ⌝ }
+    ensures { λ r. ⌜ ((pivot : List ℕ) → after (tried r pivot) (now (ws .exit)) (now (q .exit)) ≡ spoken (restartedOf (restartPlace w) (whole p pivot) (now (values .entry)) (now (ws .entry)) (now (q .entry)))) ⌝ }
 {
     load(ws, values, 0, row(p.n, F0), p.n);
     differences(ws, p.n, p.pace.h, p.span.direction);
@@ -151,13 +166,13 @@ fn restarted(ws: &mut [f64], q: &mut [f64], awaited: Awaited, p: Progress, value
     r.evals.ode = ode;
     r.order = 1;
     r.pace.equal_steps = 0;
-    ask_jacobian(ws, q, awaited, r)
+    ask_jacobian(ws, q, restart_place(w), r)
 }
 
 // The Jacobian's reply is stored and counted.
-fn jacobian(ws: &mut [f64], p: Progress, values: &[f64]) -> Progress
-    requires { ⌜ Room (p .n) (now ws) × Awake p × (p .n * p .n ≤ length (now values)) ⌝ }
-    ensures { λ r. ⌜ left r (now (ws .exit)) ≡ jacobianStored p (now (values .entry)) (now (ws .entry)) ⌝ }
+fn jacobian(ws: &mut [f64], p: Core, values: &[f64]) -> Core
+    requires { ⌜ Room (p .n) (now ws) × Awake (bare p) × (p .n * p .n ≤ length (now values)) ⌝ }
+    ensures { λ r. ⌜ ((pivot : List ℕ) → left (whole r pivot) (now (ws .exit)) ≡ jacobianStored (whole p pivot) (now (values .entry)) (now (ws .entry))) ⌝ }
 {
     load(ws, values, 0, 0, p.n * p.n);
     let mut r = p;
@@ -166,17 +181,17 @@ fn jacobian(ws: &mut [f64], p: Progress, values: &[f64]) -> Progress
     r
 }
 
-fn outdated(p: Progress) -> Progress
-    ensures { λ r. ⌜ r ≡ outdatedOf p ⌝ }
+fn outdated(p: Core) -> Core
+    ensures { λ r. ⌜ ((pivot : List ℕ) → whole r pivot ≡ outdatedOf (whole p pivot)) ⌝ }
 {
     let mut r = p;
     r.pace.lu_is_current = false;
     r
 }
 
-fn chosen(ws: &mut [f64], q: &mut [f64], p: Progress, c: Choice) -> Turn
-    requires { ⌜ Ready p (now ws) (now q) × (1 ≤ c .order) × (c .order ≤ 5) ⌝ }
-    ensures { λ r. ⌜ after r (now (ws .exit)) (now (q .exit)) ≡ chosenOf p c (now (ws .entry)) (now (q .entry)) ⌝ }
+fn chosen(ws: &mut [f64], q: &mut [f64], p: Core, c: Choice) -> Outcome
+    requires { ⌜ Ready (bare p) (now ws) (now q) × (1 ≤ c .order) × (c .order ≤ 5) ⌝ }
+    ensures { λ r. ⌜ Prepared r (now (ws .exit)) (now (q .exit)) × ((pivot : List ℕ) → leftOver r pivot (now (ws .exit)) (now (q .exit)) ≡ chosenOf (whole p pivot) c (now (ws .entry)) (now (q .entry))) ⌝ }
 {
     rescale_d(ws, p.n, c.order, c.factor);
     let mut r = p;
@@ -186,14 +201,14 @@ fn chosen(ws: &mut [f64], q: &mut [f64], p: Progress, c: Choice) -> Turn
     r.pace.equal_steps = 0;
     r.pace.lu_is_current = false;
     if c.order == p.order {
-        return main_loop(ws, q, r);
+        return again(r);
     }
     ask_jacobian(ws, q, Awaited::OrderJacobian, r)
 }
 
-fn ordered(ws: &mut [f64], q: &mut [f64], p: Progress) -> Turn
-    requires { ⌜ Ready p (now ws) (now q) ⌝ }
-    ensures { λ r. ⌜ after r (now (ws .exit)) (now (q .exit)) ≡ orderedOf p (now (ws .entry)) (now (q .entry)) ⌝ }
+fn ordered(ws: &mut [f64], q: &mut [f64], p: Core) -> Outcome
+    requires { ⌜ Ready (bare p) (now ws) (now q) ⌝ }
+    ensures { λ r. ⌜ Prepared r (now (ws .exit)) (now (q .exit)) × ((pivot : List ℕ) → leftOver r pivot (now (ws .exit)) (now (q .exit)) ≡ orderedOf (whole p pivot) (now (ws .entry)) (now (q .entry))) ⌝ }
 {
     let m = err_m(ws, p.n, p.order);
     let a = err_p(ws, p.n, p.order);
@@ -201,9 +216,9 @@ fn ordered(ws: &mut [f64], q: &mut [f64], p: Progress) -> Turn
     chosen(ws, q, p, c)
 }
 
-fn stepped(ws: &mut [f64], q: &mut [f64], p: Progress) -> Turn
-    requires { ⌜ Ready p (now ws) (now q) ⌝ }
-    ensures { λ r. ⌜ after r (now (ws .exit)) (now (q .exit)) ≡ steppedOf p (now (ws .entry)) (now (q .entry)) ⌝ }
+pub(crate) fn stepped(ws: &mut [f64], q: &mut [f64], p: Core) -> Outcome
+    requires { ⌜ Ready (bare p) (now ws) (now q) ⌝ }
+    ensures { λ r. ⌜ Prepared r (now (ws .exit)) (now (q .exit)) × ((pivot : List ℕ) → leftOver r pivot (now (ws .exit)) (now (q .exit)) ≡ steppedOf (whole p pivot) (now (ws .entry)) (now (q .entry))) ⌝ }
 {
     if p.span.direction * (p.x - p.span.xend) >= 0.0 {
         return end(Status::Success, p);
@@ -211,57 +226,65 @@ fn stepped(ws: &mut [f64], q: &mut [f64], p: Progress) -> Turn
     if p.order < p.pace.equal_steps {
         return ordered(ws, q, p);
     }
-    main_loop(ws, q, p)
+    again(p)
 }
 
-fn newton_turn(ws: &mut [f64], q: &mut [f64], p: Progress, values: &[f64]) -> Turn
-    requires { ⌜ Ready p (now ws) (now q) × Awake p × (p .n ≤ length (now values)) × (p .newton .iters < p .limits .newton) ⌝ }
-    ensures { λ r. ⌜ after r (now (ws .exit)) (now (q .exit)) ≡ newtonTurn p (now (values .entry)) (now (ws .entry)) (now (q .entry)) ⌝ }
-{
-    let t = newton_replied(ws, q, p, values);
-    if t.again {
-        let s = t.turn.run.at;
-        return main_loop(ws, q, s);
-    }
-    t.turn
-}
-
-fn failed_turn(ws: &mut [f64], q: &mut [f64], p: Progress, values: &[f64]) -> Turn
-    requires { ⌜ Ready p (now ws) (now q) × Awake p × (p .n * p .n ≤ length (now values)) ⌝ }
-    ensures { λ r. ⌜ after r (now (ws .exit)) (now (q .exit)) ≡ failedTurn p (now (values .entry)) (now (ws .entry)) (now (q .entry)) ⌝ }
+fn failed_turn(ws: &mut [f64], q: &mut [f64], p: Core, values: &[f64]) -> Outcome
+    requires { ⌜ Ready (bare p) (now ws) (now q) × Awake (bare p) × (p .n * p .n ≤ length (now values)) ⌝ }
+    ensures { λ r. ⌜ Prepared r (now (ws .exit)) (now (q .exit)) × ((pivot : List ℕ) → leftOver r pivot (now (ws .exit)) (now (q .exit)) ≡ failedTurn (whole p pivot) (now (values .entry)) (now (ws .entry)) (now (q .entry))) ⌝ }
 {
     let r = jacobian(ws, p, values);
     let s = halve(ws, r);
-    main_loop(ws, q, s)
+    again(s)
 }
 
-fn start_noticed(ws: &mut [f64], q: &mut [f64], p: Progress, reply: Reply, values: &[f64]) -> Turn
-    requires { ⌜ Ready p (now ws) (now q) × Enough p reply (now values) ⌝ }
-    ensures { λ r. ⌜ after r (now (ws .exit)) (now (q .exit)) ≡ startNoticed p reply (now (values .entry)) (now (ws .entry)) (now (q .entry)) ⌝ }
+fn start_noticed(ws: &mut [f64], q: &mut [f64], p: Core, reply: Reply, values: &[f64]) -> Outcome
+    requires { ⌜ Ready (bare p) (now ws) (now q) × Enough (bare p) reply (now values) ⌝ }
+    ensures { λ r. ⌜ Prepared r (now (ws .exit)) (now (q .exit)) × ((pivot : List ℕ) → leftOver r pivot (now (ws .exit)) (now (q .exit)) ≡ startNoticed (whole p pivot) reply (now (values .entry)) (now (ws .entry)) (now (q .entry))) ⌝ }
 {
     match reply {
-        Reply::Continue => main_loop(ws, q, p),
+        Reply::Continue => again(p),
         Reply::Interrupt => end(Status::UserInterrupt, p),
         Reply::Modified(x) => modified(ws, q, Awaited::ModifiedStartDerivative, p, x, values),
-        Reply::Values => main_loop(ws, q, p),
+        Reply::Values => again(p),
     }
 }
 
-fn step_noticed(ws: &mut [f64], q: &mut [f64], p: Progress, reply: Reply, values: &[f64]) -> Turn
-    requires { ⌜ Ready p (now ws) (now q) × Enough p reply (now values) ⌝ }
-    ensures { λ r. ⌜ after r (now (ws .exit)) (now (q .exit)) ≡ stepNoticed p reply (now (values .entry)) (now (ws .entry)) (now (q .entry)) ⌝ }
+// What a reply came to that is no step done with.
+fn plain(outcome: Outcome) -> Next
+    ensures { λ r. ⌜ r ≡ plainly outcome ⌝ }
+{
+    Next {
+        steps: false,
+        outcome,
+    }
+}
+
+// A step is done with.
+fn steps_on(p: Core) -> Next
+    ensures { λ r. ⌜ (r .steps ≡ true) × (r .outcome .at ≡ p) ⌝ }
+{
+    Next {
+        steps: true,
+        outcome: again(p),
+    }
+}
+
+fn step_noticed(ws: &mut [f64], q: &mut [f64], p: Core, reply: Reply, values: &[f64]) -> Next
+    requires { ⌜ Ready (bare p) (now ws) (now q) × Enough (bare p) reply (now values) ⌝ }
+    ensures { λ r. ⌜ Resumable r (now (ws .exit)) (now (q .exit)) × ((pivot : List ℕ) → resumed r pivot (now (ws .exit)) (now (q .exit)) ≡ stepNoticed (whole p pivot) reply (now (values .entry)) (now (ws .entry)) (now (q .entry))) ⌝ }
 {
     match reply {
-        Reply::Continue => stepped(ws, q, p),
-        Reply::Interrupt => end(Status::UserInterrupt, p),
-        Reply::Modified(x) => modified(ws, q, Awaited::ModifiedStepDerivative, p, x, values),
-        Reply::Values => stepped(ws, q, p),
+        Reply::Continue => steps_on(p),
+        Reply::Interrupt => plain(end(Status::UserInterrupt, p)),
+        Reply::Modified(x) => plain(modified(ws, q, Awaited::ModifiedStepDerivative, p, x, values)),
+        Reply::Values => steps_on(p),
     }
 }
 
-fn first_derivative(ws: &mut [f64], q: &mut [f64], p: Progress, values: &[f64]) -> Turn
-    requires { ⌜ Ready p (now ws) (now q) × Awake p × (p .n ≤ length (now values)) ⌝ }
-    ensures { λ r. ⌜ after r (now (ws .exit)) (now (q .exit)) ≡ firstDerivative p (now (values .entry)) (now (ws .entry)) (now (q .entry)) ⌝ }
+fn first_derivative(ws: &mut [f64], q: &mut [f64], p: Core, values: &[f64]) -> Outcome
+    requires { ⌜ Ready (bare p) (now ws) (now q) × Awake (bare p) × (p .n ≤ length (now values)) ⌝ }
+    ensures { λ r. ⌜ ((pivot : List ℕ) → after (tried r pivot) (now (ws .exit)) (now (q .exit)) ≡ spoken (firstDerivative (whole p pivot) (now (values .entry)) (now (ws .entry)) (now (q .entry)))) ⌝ }
 {
     load(ws, values, 0, row(p.n, F0), p.n);
     let mut r = p;
@@ -270,74 +293,68 @@ fn first_derivative(ws: &mut [f64], q: &mut [f64], p: Progress, values: &[f64]) 
     ask_jacobian(ws, q, Awaited::FirstJacobian, r)
 }
 
-fn first_jacobian(ws: &mut [f64], q: &mut [f64], p: Progress, values: &[f64]) -> Turn
-    requires { ⌜ Ready p (now ws) (now q) × Awake p × (p .n * p .n ≤ length (now values)) ⌝ }
-    ensures { λ r. ⌜ after r (now (ws .exit)) (now (q .exit)) ≡ firstJacobian p (now (values .entry)) (now (ws .entry)) (now (q .entry)) ⌝ }
+fn first_jacobian(ws: &mut [f64], q: &mut [f64], p: Core, values: &[f64]) -> Outcome
+    requires { ⌜ Ready (bare p) (now ws) (now q) × Awake (bare p) × (p .n * p .n ≤ length (now values)) ⌝ }
+    ensures { λ r. ⌜ ((pivot : List ℕ) → after (tried r pivot) (now (ws .exit)) (now (q .exit)) ≡ spoken (firstJacobian (whole p pivot) (now (values .entry)) (now (ws .entry)) (now (q .entry)))) ⌝ }
 {
     let r = jacobian(ws, p, values);
     first_step(ws, q, r)
 }
 
-fn restart_jacobian(ws: &mut [f64], q: &mut [f64], p: Progress, values: &[f64]) -> Turn
-    requires { ⌜ Ready p (now ws) (now q) × Awake p × (p .n * p .n ≤ length (now values)) ⌝ }
-    ensures { λ r. ⌜ after r (now (ws .exit)) (now (q .exit)) ≡ restartJacobian p (now (values .entry)) (now (ws .entry)) (now (q .entry)) ⌝ }
+fn restart_jacobian(ws: &mut [f64], q: &mut [f64], p: Core, values: &[f64]) -> Outcome
+    requires { ⌜ Ready (bare p) (now ws) (now q) × Awake (bare p) × (p .n * p .n ≤ length (now values)) ⌝ }
+    ensures { λ r. ⌜ Prepared r (now (ws .exit)) (now (q .exit)) × ((pivot : List ℕ) → leftOver r pivot (now (ws .exit)) (now (q .exit)) ≡ restartJacobian (whole p pivot) (now (values .entry)) (now (ws .entry)) (now (q .entry))) ⌝ }
 {
     let r = jacobian(ws, p, values);
-    main_loop(ws, q, outdated(r))
+    again(outdated(r))
 }
 
-fn step_jacobian(ws: &mut [f64], q: &mut [f64], p: Progress, values: &[f64]) -> Turn
-    requires { ⌜ Ready p (now ws) (now q) × Awake p × (p .n * p .n ≤ length (now values)) ⌝ }
-    ensures { λ r. ⌜ after r (now (ws .exit)) (now (q .exit)) ≡ stepJacobian p (now (values .entry)) (now (ws .entry)) (now (q .entry)) ⌝ }
+fn step_jacobian(ws: &mut [f64], q: &mut [f64], p: Core, values: &[f64]) -> Next
+    requires { ⌜ Ready (bare p) (now ws) (now q) × Awake (bare p) × (p .n * p .n ≤ length (now values)) ⌝ }
+    ensures { λ r. ⌜ Resumable r (now (ws .exit)) (now (q .exit)) × ((pivot : List ℕ) → resumed r pivot (now (ws .exit)) (now (q .exit)) ≡ stepJacobian (whole p pivot) (now (values .entry)) (now (ws .entry)) (now (q .entry))) ⌝ }
 {
     let r = jacobian(ws, p, values);
-    stepped(ws, q, outdated(r))
+    steps_on(outdated(r))
 }
 
-fn order_jacobian(ws: &mut [f64], q: &mut [f64], p: Progress, values: &[f64]) -> Turn
-    requires { ⌜ Ready p (now ws) (now q) × Awake p × (p .n * p .n ≤ length (now values)) ⌝ }
-    ensures { λ r. ⌜ after r (now (ws .exit)) (now (q .exit)) ≡ orderJacobian p (now (values .entry)) (now (ws .entry)) (now (q .entry)) ⌝ }
+fn order_jacobian(ws: &mut [f64], q: &mut [f64], p: Core, values: &[f64]) -> Outcome
+    requires { ⌜ Ready (bare p) (now ws) (now q) × Awake (bare p) × (p .n * p .n ≤ length (now values)) ⌝ }
+    ensures { λ r. ⌜ Prepared r (now (ws .exit)) (now (q .exit)) × ((pivot : List ℕ) → leftOver r pivot (now (ws .exit)) (now (q .exit)) ≡ orderJacobian (whole p pivot) (now (values .entry)) (now (ws .entry)) (now (q .entry))) ⌝ }
 {
     let r = jacobian(ws, p, values);
-    main_loop(ws, q, r)
+    again(r)
 }
 
 pub(crate) fn replied(
     ws: &mut [f64],
     q: &mut [f64],
+    pivot: &[usize],
     w: Awaited,
-    p: Progress,
+    p: Core,
     reply: Reply,
     values: &[f64],
-) -> Turn
-    requires { ⌜ Ready p (now ws) (now q) × Awake p × Answered w p reply (now values) ⌝ }
-    ensures { λ r. ⌜ after r (now (ws .exit)) (now (q .exit)) ≡ repliedOf w p reply (now (values .entry)) (now (ws .entry)) (now (q .entry)) ⌝ }
+) -> Next
+    requires { ⌜ Ready (bare p) (now ws) (now q) × Awake (bare p) × Answered w (bare p) reply (now values) × (maxN ≤ length (now pivot)) ⌝ }
+    ensures { λ r. ⌜ Resumable r (now (ws .exit)) (now (q .exit)) × (resumed r (now (pivot .entry)) (now (ws .exit)) (now (q .exit)) ≡ repliedOf w (whole p (now (pivot .entry))) reply (now (values .entry)) (now (ws .entry)) (now (q .entry))) ⌝ }
 {
     match w {
-        Awaited::FirstDerivative => first_derivative(ws, q, p, values),
-        Awaited::FirstJacobian => first_jacobian(ws, q, p, values),
-        Awaited::StartDerivative => hinit_replied(ws, q, p, values),
-        Awaited::StartNotice => start_noticed(ws, q, p, reply, values),
-        Awaited::ModifiedStartDerivative => restarted(
+        Awaited::FirstDerivative => plain(first_derivative(ws, q, p, values)),
+        Awaited::FirstJacobian => plain(first_jacobian(ws, q, p, values)),
+        Awaited::StartDerivative => plain(hinit_replied(ws, q, p, values)),
+        Awaited::StartNotice => plain(start_noticed(ws, q, p, reply, values)),
+        Awaited::ModifiedStartDerivative | Awaited::ModifiedStepDerivative => plain(restarted(
             ws,
             q,
-            Awaited::ModifiedStartJacobian,
+            w,
             p,
             values,
-        ),
-        Awaited::ModifiedStartJacobian => restart_jacobian(ws, q, p, values),
-        Awaited::NewtonDerivative => newton_turn(ws, q, p, values),
-        Awaited::FailedJacobian => failed_turn(ws, q, p, values),
+        )),
+        Awaited::ModifiedStartJacobian => plain(restart_jacobian(ws, q, p, values)),
+        Awaited::NewtonDerivative => plain(newton_replied(ws, q, pivot, p, values)),
+        Awaited::FailedJacobian => plain(failed_turn(ws, q, p, values)),
         Awaited::StepNotice => step_noticed(ws, q, p, reply, values),
-        Awaited::ModifiedStepDerivative => restarted(
-            ws,
-            q,
-            Awaited::ModifiedStepJacobian,
-            p,
-            values,
-        ),
         Awaited::ModifiedStepJacobian => step_jacobian(ws, q, p, values),
-        Awaited::OrderJacobian => order_jacobian(ws, q, p, values),
-        Awaited::Ended => end(Status::UserInterrupt, p),
+        Awaited::OrderJacobian => plain(order_jacobian(ws, q, p, values)),
+        Awaited::Ended => plain(end(Status::UserInterrupt, p)),
     }
 }

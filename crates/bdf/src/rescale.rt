@@ -1,14 +1,14 @@
 // Rescaling the differences D to another step size: `compute_r`, `matmul` and `change_d` of the Rust. A table of
 // order + 1 rows is an array of 36, its entry (i, j) at i * 6 + j.
-use crate::limits::MAX_N;
 use crate::unit::unit_r;
+use matrix::MAX_N;
 ghost use mathlib.Core.Path.{_≡_};
 ghost use Prim.Native.Nat.{_+_, _*_, _≤_, _<_};
 ghost use lib.ListN.{length};
-ghost use Rattle.bdf.specs.Arithmetic.{one};
-ghost use Rattle.bdf.specs.Limits.{maxN};
-ghost use Rattle.bdf.specs.Tables.{maxOrder};
-ghost use Rattle.bdf.specs.Rescale.{firstRow, mRow, mTable, rRow, rTable, computeR, addScaled, productRow, matmul as product, newRow, newRows, copied, changeD};
+ghost use Rattle.loops.specs.Arithmetic.{one};
+ghost use Rattle.matrix.specs.Size.{maxN};
+ghost use Rattle.rules.specs.Tables.{maxOrder};
+ghost use Rattle.rules.specs.Rescale.{firstRow, mRow, mTable, rRow, rTable, computeR, addScaled, productRow, matmul as product, newRow, newRows, copied, changeD};
 
 // Room for six new rows of as many components as there can be.
 const ROOM: usize = 6 * MAX_N;

@@ -9,8 +9,8 @@ use crate::places::get;
 use crate::places::put;
 ghost use mathlib.Core.Path.{_≡_};
 ghost use Prim.Native.Nat.{_+_, _*_, _≤_, _<_};
-ghost use Rattle.bdf.specs.Ready.{Room};
-ghost use Rattle.bdf.specs.Starting.{sk as skOf, squares as squaresOf, rawGuess, firstGuess, guess as guessOf, euler as eulerOf, second as secondOf, h1 as h1Of, finalGuess, hinit as hinitOf, withinSpan};
+ghost use Rattle.rules.specs.Ready.{Room};
+ghost use Rattle.rules.specs.Starting.{sk as skOf, squares as squaresOf, rawGuess, firstGuess, guess as guessOf, euler as eulerOf, second as secondOf, h1 as h1Of, finalGuess, hinit as hinitOf, withinSpan};
 
 fn sk(ws: &[f64], n: usize, i: usize) -> f64
     requires { ⌜ Room n (now ws) × (i < n) ⌝ }

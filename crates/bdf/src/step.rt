@@ -1,10 +1,10 @@
 // What follows a Newton derivative's reply.
 use crate::aim::rescale_d;
-use crate::attempt::Tried;
-use crate::attempt::again;
-use crate::attempt::says;
 use crate::attempt::tell;
-use crate::attempt::turn;
+use crate::core::Core;
+use crate::core::Outcome;
+use crate::core::again;
+use crate::core::says;
 use crate::judge::accept;
 use crate::judge::safety;
 use crate::judge::weigh;
@@ -23,19 +23,21 @@ use crate::places::Y_PREDICT;
 use crate::places::row;
 use crate::predict::rescale;
 use crate::tables::error_const;
-use crate::types::Answer;
-use crate::types::Awaited;
-use crate::types::Progress;
+use rules::types::Answer;
+use rules::types::Awaited;
 ghost use mathlib.Core.Path.{_≡_};
-ghost use Prim.Native.Nat.{_+_, _*_, _≤_, _<_};
+ghost use mathlib.Core.List.{List};
+ghost use Prim.Native.Nat.{ℕ, _+_, _*_, _≤_, _<_};
 ghost use lib.ListN.{length};
-ghost use Rattle.bdf.specs.Ready.{Room, Sane, Ready, Awake, Judging};
-ghost use Rattle.bdf.specs.State.{left, after};
-ghost use Rattle.bdf.specs.Step.{errorRejected, stepAccepted, judged, newtonFailed, newtonAgain, iterated as iteratedOf, newtonReplied};
+ghost use Rattle.matrix.specs.Size.{maxN};
+ghost use Rattle.rules.specs.Ready.{Room, Sane, Ready, Awake, Judging};
+ghost use Rattle.rules.specs.State.{left, after};
+ghost use Rattle.bdf.specs.Core.{whole, bare, tried};
+ghost use Rattle.rules.specs.Step.{errorRejected, stepAccepted, judged, newtonFailed, newtonAgain, iterated as iteratedOf, newtonReplied};
 
-fn error_rejected(ws: &mut [f64], p: Progress, safety: f64, norm: f64) -> Tried
-    requires { ⌜ Room (p .n) (now ws) × Sane p ⌝ }
-    ensures { λ r. ⌜ left r (now (ws .exit)) ≡ errorRejected p safety norm (now (ws .entry)) ⌝ }
+fn error_rejected(ws: &mut [f64], p: Core, safety: f64, norm: f64) -> Outcome
+    requires { ⌜ Room (p .n) (now ws) × Sane (bare p) ⌝ }
+    ensures { λ r. ⌜ ((pivot : List ℕ) → left (tried r pivot) (now (ws .exit)) ≡ errorRejected (whole p pivot) safety norm (now (ws .entry))) ⌝ }
 {
     let factor = number::max(safety * factor(p.order + 1, norm), 0.2);
     rescale_d(ws, p.n, p.order, factor);
@@ -48,9 +50,9 @@ fn error_rejected(ws: &mut [f64], p: Progress, safety: f64, norm: f64) -> Tried
     again(r)
 }
 
-fn step_accepted(ws: &mut [f64], q: &mut [f64], p: Progress, safety: f64, norm: f64) -> Tried
-    requires { ⌜ Ready p (now ws) (now q) × Judging p ⌝ }
-    ensures { λ r. ⌜ after r (now (ws .exit)) (now (q .exit)) ≡ stepAccepted p safety norm (now (ws .entry)) (now (q .entry)) ⌝ }
+fn step_accepted(ws: &mut [f64], q: &mut [f64], p: Core, safety: f64, norm: f64) -> Outcome
+    requires { ⌜ Ready (bare p) (now ws) (now q) × Judging (bare p) ⌝ }
+    ensures { λ r. ⌜ ((pivot : List ℕ) → after (tried r pivot) (now (ws .exit)) (now (q .exit)) ≡ stepAccepted (whole p pivot) safety norm (now (ws .entry)) (now (q .entry))) ⌝ }
 {
     accept(ws, p.n, p.order);
     tell(q, ws, p.n, Y);
@@ -64,7 +66,7 @@ fn step_accepted(ws: &mut [f64], q: &mut [f64], p: Progress, safety: f64, norm: 
     r.pace.equal_steps = equal_steps;
     r.newton.safety = safety;
     r.newton.error_norm = norm;
-    says(turn(
+    says(
         Answer::Step {
             old: a.x_new - a.h_signed,
             new: a.x_new,
@@ -73,12 +75,12 @@ fn step_accepted(ws: &mut [f64], q: &mut [f64], p: Progress, safety: f64, norm: 
         },
         Awaited::StepNotice,
         r,
-    ))
+    )
 }
 
-fn judge(ws: &mut [f64], q: &mut [f64], p: Progress) -> Tried
-    requires { ⌜ Ready p (now ws) (now q) × Judging p × (p .newton .iters ≤ 64) ⌝ }
-    ensures { λ r. ⌜ after r (now (ws .exit)) (now (q .exit)) ≡ judged p (now (ws .entry)) (now (q .entry)) ⌝ }
+fn judge(ws: &mut [f64], q: &mut [f64], p: Core) -> Outcome
+    requires { ⌜ Ready (bare p) (now ws) (now q) × Judging (bare p) × (p .newton .iters ≤ 64) ⌝ }
+    ensures { λ r. ⌜ ((pivot : List ℕ) → after (tried r pivot) (now (ws .exit)) (now (q .exit)) ≡ judged (whole p pivot) (now (ws .entry)) (now (q .entry))) ⌝ }
 {
     rescale(ws, p.n, Y_NEW);
     weigh(ws, p.n, error_const(p.order), DELTA);
@@ -90,33 +92,33 @@ fn judge(ws: &mut [f64], q: &mut [f64], p: Progress) -> Tried
     step_accepted(ws, q, p, s, norm)
 }
 
-fn newton_failed(ws: &[f64], q: &mut [f64], p: Progress) -> Tried
+fn newton_failed(ws: &[f64], q: &mut [f64], p: Core) -> Outcome
     requires { ⌜ Room (p .n) (now ws) × (8 * p .n ≤ length (now q)) ⌝ }
-    ensures { λ r. ⌜ after r (now (ws .entry)) (now (q .exit)) ≡ newtonFailed p (now (ws .entry)) (now (q .entry)) ⌝ }
+    ensures { λ r. ⌜ ((pivot : List ℕ) → after (tried r pivot) (now (ws .entry)) (now (q .exit)) ≡ newtonFailed (whole p pivot) (now (ws .entry)) (now (q .entry))) ⌝ }
 {
     tell(q, ws, p.n, Y_PREDICT);
-    says(turn(Answer::Jacobian(p.aim.x_new), Awaited::FailedJacobian, p))
+    says(Answer::Jacobian(p.aim.x_new), Awaited::FailedJacobian, p)
 }
 
-fn newton_again(ws: &[f64], q: &mut [f64], p: Progress, norm: f64) -> Tried
+fn newton_again(ws: &[f64], q: &mut [f64], p: Core, norm: f64) -> Outcome
     requires { ⌜ Room (p .n) (now ws) × (8 * p .n ≤ length (now q)) × (p .newton .iters ≤ 64) ⌝ }
-    ensures { λ r. ⌜ after r (now (ws .entry)) (now (q .exit)) ≡ newtonAgain p norm (now (ws .entry)) (now (q .entry)) ⌝ }
+    ensures { λ r. ⌜ ((pivot : List ℕ) → after (tried r pivot) (now (ws .entry)) (now (q .exit)) ≡ newtonAgain (whole p pivot) norm (now (ws .entry)) (now (q .entry))) ⌝ }
 {
     tell(q, ws, p.n, Y_NEW);
     let mut r = p;
     let iters = p.newton.iters + 1;
     r.newton.iters = iters;
     r.newton.prev = norm;
-    says(turn(
+    says(
         Answer::Derivative(p.aim.x_new),
         Awaited::NewtonDerivative,
         r,
-    ))
+    )
 }
 
-fn iterated(ws: &mut [f64], q: &mut [f64], p: Progress, norm: f64) -> Tried
-    requires { ⌜ Ready p (now ws) (now q) × Judging p × (p .newton .iters < p .limits .newton) ⌝ }
-    ensures { λ r. ⌜ after r (now (ws .exit)) (now (q .exit)) ≡ iteratedOf p norm (now (ws .entry)) (now (q .entry)) ⌝ }
+fn iterated(ws: &mut [f64], q: &mut [f64], p: Core, norm: f64) -> Outcome
+    requires { ⌜ Ready (bare p) (now ws) (now q) × Judging (bare p) × (p .newton .iters < p .limits .newton) ⌝ }
+    ensures { λ r. ⌜ ((pivot : List ℕ) → after (tried r pivot) (now (ws .exit)) (now (q .exit)) ≡ iteratedOf (whole p pivot) norm (now (ws .entry)) (now (q .entry))) ⌝ }
 {
     let tol = p.span.newton_tol;
     if converged(tol, p.newton.iters, p.newton.prev, norm) {
@@ -128,11 +130,16 @@ fn iterated(ws: &mut [f64], q: &mut [f64], p: Progress, norm: f64) -> Tried
     newton_again(ws, q, p, norm)
 }
 
-pub(crate) fn newton_replied(ws: &mut [f64], q: &mut [f64], p: Progress, values: &[f64]) -> Tried
-    requires { ⌜ Ready p (now ws) (now q) × Awake p × (p .n ≤ length (now values)) × (p .newton .iters < p .limits .newton) ⌝ }
-    ensures { λ r. ⌜ after r (now (ws .exit)) (now (q .exit)) ≡ newtonReplied p (now (values .entry)) (now (ws .entry)) (now (q .entry)) ⌝ }
+pub(crate) fn newton_replied(
+    ws: &mut [f64],
+    q: &mut [f64],
+    pivot: &[usize],
+    p: Core,
+    values: &[f64],
+) -> Outcome
+    requires { ⌜ Ready (bare p) (now ws) (now q) × Awake (bare p) × (p .n ≤ length (now values)) × (p .newton .iters < p .limits .newton) × (maxN ≤ length (now pivot)) ⌝ }
+    ensures { λ r. ⌜ after (tried r (now (pivot .entry))) (now (ws .exit)) (now (q .exit)) ≡ newtonReplied (whole p (now (pivot .entry))) (now (values .entry)) (now (ws .entry)) (now (q .entry)) ⌝ }
 {
-    let pivot = p.pivot;
     correct(ws, p.n, p.aim.c, pivot, values);
     let norm = rhs_norm(ws, p.n);
     advance(ws, p.n);

@@ -3,7 +3,7 @@
 ghost use mathlib.Core.Path.{_≡_};
 ghost use Prim.Native.Nat.{_≤_};
 ghost use Rattle.loops.specs.Cell.{at};
-ghost use Rattle.bdf.specs.Tables.{maxOrder, gammas, alphas, errorConsts};
+ghost use Rattle.rules.specs.Tables.{maxOrder, gammas, alphas, errorConsts};
 
 const GAMMA: [f64; 6] = [
     0.0,

@@ -2,9 +2,9 @@
 // the zeros have the signs that the products leave.
 ghost use mathlib.Core.Path.{_≡_};
 ghost use Prim.Native.Nat.{_≤_};
-ghost use Rattle.bdf.specs.Arithmetic.{one};
-ghost use Rattle.bdf.specs.Tables.{maxOrder};
-ghost use Rattle.bdf.specs.Rescale.{computeR};
+ghost use Rattle.loops.specs.Arithmetic.{one};
+ghost use Rattle.rules.specs.Tables.{maxOrder};
+ghost use Rattle.rules.specs.Rescale.{computeR};
 
 // A zero that a product with a negative factor left.
 const MINUS_ZERO: f64 = -0.0;

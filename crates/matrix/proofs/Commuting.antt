@@ -10,7 +10,7 @@ use lib.Seq.{getD-set-other}
 use lib.Ieee.{Float, nan, neg}
 use Rattle.loops.specs.Order.{Commute}
 use Rattle.loops.specs.Cell.{cell}
-use Rattle.matrix.specs.Binary64.{mul}
+use Rattle.loops.specs.Arithmetic.{_⊗_}
 use Rattle.matrix.specs.Lu.{exchangedOf, scaleTurn}
 use Rattle.matrix.specs.Rows.{addedOf, cellTurn}
 use Rattle.matrix.proofs.Writes.{exchange, Blind, Apart, writes-commute, exchange-commutes, choice-commutes, rows-apart, columns-apart}
@@ -24,10 +24,12 @@ module _ (n k : ℕ) (small : k < n) where
   eliminated-blind i j q a b c s x =
       rw (getD-set-other s q (i * n + j) x nan a, getD-set-other s q (i * n + k) x nan b, getD-set-other s q (k * n + j) x nan c)
 
-  scaled-blind : (t : Float) (i q : ℕ) → Apart (i * n + k) q → Blind (λ a. mul (neg (cell n a i k)) t) q
+  scaled-blind : (t : Float) (i q : ℕ) → Apart (i * n + k) q → Blind (λ a. neg (cell n a i k) ⊗ t) q
   scaled-blind t i q a s x = rw (getD-set-other s q (i * n + k) x nan a)
 
-  pub cells-commute : (i i′ j j′ : ℕ) → k < i → k < i′ → k < j → k < j′ → j < n → j′ < n → Apart i i′ → Apart j j′ → Commute (cellTurn n k i j) (cellTurn n k i′ j′)
+  pub cells-commute :
+      (i i′ j j′ : ℕ) → k < i → k < i′ → k < j → k < j′ → j < n → j′ < n → Apart i i′ → Apart j j′ →
+      Commute (cellTurn n k i j) (cellTurn n k i′ j′)
   unfolding cellTurn
   cells-commute i i′ j j′ a b c d h h′ ni nj =
       writes-commute (i * n + j) (i′ * n + j′) (eliminated i j) (eliminated i′ j′) (rows-apart n i i′ j j′ h h′ ni)
@@ -40,7 +42,7 @@ module _ (n k : ℕ) (small : k < n) where
   scale-passes-cell t i i′ j a b h ni =
       let other = columns-apart n i i′ j k h small (λ e. omega arith) in
       let back = columns-apart n i′ i k j small h (λ e. omega arith) in
-      writes-commute (i′ * n + k) (i * n + j) (λ s. mul (neg (cell n s i′ k)) t) (eliminated i j) back (scaled-blind t i′ (i * n + j) back)
+      writes-commute (i′ * n + k) (i * n + j) (λ s. neg (cell n s i′ k) ⊗ t) (eliminated i j) back (scaled-blind t i′ (i * n + j) back)
       (eliminated-blind i j (i′ * n + k) other (rows-apart n i i′ k k small small ni) (columns-apart n k i′ j k h small (λ e. omega arith)))
 
   module _ (m : ℕ) where
@@ -58,5 +60,5 @@ module _ (n k : ℕ) (small : k < n) where
     exchange-passes-scale t i j a h =
         let left : (r r′ : ℕ) → Apart (r * n + k) (r′ * n + j) = λ r r′. columns-apart n r r′ k j small h (λ e. omega arith) in
         choice-commutes (eqb m k) (exchange (m * n + j) (k * n + j)) (scaleTurn n k t i)
-        (exchange-commutes (i * n + k) (m * n + j) (k * n + j) (λ s. mul (neg (cell n s i k)) t) (left i m) (left i k)
+        (exchange-commutes (i * n + k) (m * n + j) (k * n + j) (λ s. neg (cell n s i k) ⊗ t) (left i m) (left i k)
         (scaled-blind t i (m * n + j) (left i m)) (scaled-blind t i (k * n + j) (left i k)))

@@ -8,8 +8,9 @@ use borrow.Author.Tests.{ltb-false, le-ltb}
 use lib.IntN.{ℤ}
 use lib.Ieee.{Float, nan, inf, fin, lt, neg, below, up, down, ofBits, ofFields, odd}
 use Rattle.loops.specs.Choice.{if_then_else_, either}
-use Rattle.matrix.specs.Binary64.{nought}
-use Rattle.matrix.specs.Magnitude.{absOf, magnitudeOf}
+use Rattle.loops.specs.Arithmetic.{+0}
+use Rattle.number.specs.Helpers.{absOf}
+use Rattle.matrix.specs.Magnitude.{magnitudeOf}
 
 -- x and y compare alike with every float
 abbrev Like : Float → Float → Type 0
@@ -32,11 +33,11 @@ zeros-alike m e z (fin t n d) =
     let none : m * up e * down d ≡ 0 = rw z (zero-mul (down d)) in
     (below-zero _ t _ none, above-zero t _ _ none)
 
-not-below-nought : (m : ℕ) (e : ℤ) → lt (fin false m e) nought ≡ false
+not-below-zero : (m : ℕ) (e : ℤ) → lt (fin false m e) +0 ≡ false
 unfolding lt ofBits ofFields odd
-not-below-nought m e = le-ltb (m * up e * 1) (0 * down e) (omega (arith, zero-mul (down e)))
+not-below-zero m e = le-ltb (m * up e * 1) (0 * down e) (omega (arith, zero-mul (down e)))
 
-no-magnitude : (m : ℕ) (e : ℤ) → lt (fin true m e) nought ≡ false → m * up e ≡ 0
+no-magnitude : (m : ℕ) (e : ℤ) → lt (fin true m e) +0 ≡ false → m * up e ≡ 0
 unfolding lt ofBits ofFields odd
 no-magnitude m e f = omega (arith, ltb-false 0 (m * up e * 1 + 0 * down e) f, mul-one (m * up e), zero-mul (down e))
 
@@ -45,9 +46,9 @@ unfolding magnitudeOf absOf if_then_else_ lt neg ofBits ofFields odd
 magnitude-alike nan = λ z. (refl, refl)
 magnitude-alike (inf true) = λ z. (refl, refl)
 magnitude-alike (inf false) = λ z. (refl, refl)
-magnitude-alike (fin false m e) = rw (not-below-nought m e) (λ z. (refl, refl))
+magnitude-alike (fin false m e) = rw (not-below-zero m e) (λ z. (refl, refl))
 magnitude-alike (fin true m e) =
-    either (λ y. Like y (fin false m e)) (lt (fin true m e) nought) (λ t z. (refl, refl)) (λ f. zeros-alike m e (no-magnitude m e f))
+    either (λ y. Like y (fin false m e)) (lt (fin true m e) +0) (λ t z. (refl, refl)) (λ f. zeros-alike m e (no-magnitude m e f))
 
 pub same-order : (x y : Float) → lt (magnitudeOf x) (magnitudeOf y) ≡ lt (absOf x) (absOf y)
 same-order x y = magnitude-alike x (magnitudeOf y) .0 ∙ magnitude-alike y (absOf x) .1

@@ -14,10 +14,10 @@ use Rattle.loops.specs.Choice.{either, when-true, when-false}
 use Rattle.loops.specs.Loop.{loop}
 use Rattle.loops.specs.Order.{loop-first, loop-idle, loop-same, loop-keeps, loop-pass, loop-split, loop-swap}
 use Rattle.loops.specs.Cell.{cell, stored, inside}
-use Rattle.matrix.specs.Binary64.{div, nought, one}
+use Rattle.loops.specs.Arithmetic.{_⊘_, +0, one}
 use Rattle.matrix.specs.Lu.{exchangedOf, scaleTurn, eliminateTurn, columnTurn, stageOf}
 use Rattle.matrix.specs.Rows.{addedOf, cellTurn, rowTurn, stageByRows}
-use Rattle.matrix.proofs.Lengths.{exchanged-long}
+use Rattle.matrix.specs.LengthLaws.{exchanged-long}
 use Rattle.matrix.proofs.Writes.{rows-apart}
 use Rattle.matrix.proofs.Commuting.{cells-commute, scale-passes-cell, exchange-passes-cell, exchange-passes-scale}
 
@@ -49,11 +49,11 @@ module _ (n m k : ℕ) (small : k < n) where
     abbrev Held : List Float → Type 0
     Held s = cell n s k j ≡ tj
 
-    turn-adds : ne tj nought ≡ true → (i : ℕ) (s : List Float) → Held s → eliminateTurn n k j tj i s ≡ cellTurn n k i j s
+    turn-adds : ne tj +0 ≡ true → (i : ℕ) (s : List Float) → Held s → eliminateTurn n k j tj i s ≡ cellTurn n k i j s
     unfolding eliminateTurn cellTurn addedOf
     turn-adds t i s p = rw p (ap (stored n s i j) (sym (when-true _ _ t)))
 
-    turn-skips : ne tj nought ≡ false → (i : ℕ) (s : List Float) → Held s → cellTurn n k i j s ≡ s
+    turn-skips : ne tj +0 ≡ false → (i : ℕ) (s : List Float) → Held s → cellTurn n k i j s ≡ s
     unfolding cellTurn addedOf
     turn-skips f i s p = rw (p, when-false _ _ f) (set-getD s (i * n + j) nan)
 
@@ -61,11 +61,12 @@ module _ (n m k : ℕ) (small : k < n) where
     unfolding cellTurn
     still-held i s from p = pivot-stays i j _ s (omega arith) h ∙ p
 
-    down-adds : (b : List Float) → Held b → ne tj nought ≡ true → loop (k + 1) n (eliminateTurn n k j tj) b ≡ down j b
+    down-adds : (b : List Float) → Held b → ne tj +0 ≡ true → loop (k + 1) n (eliminateTurn n k j tj) b ≡ down j b
     down-adds b p t =
-        sym (loop-same Held (k + 1) n (λ i. cellTurn n k i j) (eliminateTurn n k j tj) b (λ i s from below q. (sym (turn-adds t i s q), still-held i s from q)) p .0)
+        sym (loop-same Held (k + 1) n (λ i. cellTurn n k i j) (eliminateTurn n k j tj) b
+        (λ i s from below q. (sym (turn-adds t i s q), still-held i s from q)) p .0)
 
-    down-skips : (b : List Float) → Held b → ne tj nought ≡ false → b ≡ down j b
+    down-skips : (b : List Float) → Held b → ne tj +0 ≡ false → b ≡ down j b
     down-skips b p f =
         sym (loop-same Held (k + 1) n (λ i. cellTurn n k i j) (λ i s. s) b (λ i s from below q. (turn-skips f i s q, still-held i s from q)) p .0
         ∙ loop-idle (k + 1) n b)
@@ -76,7 +77,7 @@ module _ (n m k : ℕ) (small : k < n) where
       let tj = cell n a m j in
       let b = exchangedOf n m k j a in
       let held = multiplier j a h s in
-      either (λ d. d ≡ down j b) (ne tj nought) (down-adds j tj h b held) (down-skips j tj h b held)
+      either (λ d. d ≡ down j b) (ne tj +0) (down-adds j tj h b held) (down-skips j tj h b held)
 
   -- ---- the stage
 
@@ -121,7 +122,8 @@ module _ (n m k : ℕ) (small : k < n) where
     scales-last : (a : List Float) → loop (k + 1) n exchanges (loop (k + 1) n scales a) ≡ loop (k + 1) n scales (loop (k + 1) n exchanges a)
     scales-last a =
         loop-pass (k + 1) n (loop (k + 1) n exchanges) scales a
-        (λ i from below s. sym (loop-pass (k + 1) n (scales i) exchanges s (λ j from′ below′ s. sym (exchange-passes-scale n k small m t i j (omega arith) below′ s))))
+        (λ i from below s. sym (loop-pass (k + 1) n (scales i) exchanges s
+        (λ j from′ below′ s. sym (exchange-passes-scale n k small m t i j (omega arith) below′ s))))
 
     scale-in-row : (a : List Float) → loop (k + 1) n along (loop (k + 1) n scales a) ≡ loop (k + 1) n (rowTurn n k t) a
     unfolding rowTurn
@@ -133,7 +135,7 @@ module _ (n m k : ℕ) (small : k < n) where
   pub stage-by-rows : (a : List Float) → Square n a → stageByRows n m k a ≡ stageOf n m k a
   unfolding stageByRows stageOf
   stage-by-rows a s =
-      let t = div one (cell n a m k) in
+      let t = one ⊘ cell n a m k in
       let swapped = exchanges k a in
       let scaled = loop (k + 1) n (scales t) swapped in
       let square : Square n scaled = scaled-square t swapped (exchanged-long (n * n) n m k k a s) in

@@ -9,7 +9,7 @@ use lib.Ieee.{Float, eq}
 use Rattle.loops.specs.Choice.{when-true, when-false}
 use Rattle.loops.specs.Cell.{cell}
 use Rattle.loops.specs.Refusal.{refuses}
-use Rattle.matrix.specs.Binary64.{nought}
+use Rattle.loops.specs.Arithmetic.{+0}
 use Rattle.matrix.specs.Lu.{LuOutcome, pivotOf, stageOf, lastOf, stagesOf}
 
 module _ (n k : ℕ) (a : List Float) (ip : List ℕ) where
@@ -21,11 +21,11 @@ module _ (n k : ℕ) (a : List Float) (ip : List ℕ) where
   unfolding stagesOf
   no-stage-left h = let e : n - 1 - k ≡ 0 = omega arith in rw e
 
-  pub stage-fails : (m : ℕ) → k < n - 1 → m ≡ pivotOf n a k → eq (cell n a m k) nought ≡ true → from ≡ (refuses 15, a, set ip k m)
+  pub stage-fails : (m : ℕ) → k < n - 1 → m ≡ pivotOf n a k → eq (cell n a m k) +0 ≡ true → from ≡ (refuses 15, a, set ip k m)
   unfolding stagesOf
   stage-fails m h p t = let e : n - 1 - k ≡ suc (n - 1 - (k + 1)) = omega arith in rw (e, ← p) (when-true _ _ t)
 
-  pub stage-passes : (m : ℕ) → k < n - 1 → m ≡ pivotOf n a k → eq (cell n a m k) nought ≡ false
+  pub stage-passes : (m : ℕ) → k < n - 1 → m ≡ pivotOf n a k → eq (cell n a m k) +0 ≡ false
       → from ≡ stagesOf n (n - 1 - (k + 1)) (k + 1) (stageOf n m k a) (set ip k m)
   unfolding stagesOf
   stage-passes m h p t = let e : n - 1 - k ≡ suc (n - 1 - (k + 1)) = omega arith in rw (e, ← p) (when-false _ _ t)

@@ -59,7 +59,8 @@ row-before n {r} {r′} c′ h o = let rows : (r + 1) * n ≤ r′ * n = mul-le-
 
 pub three-ways : {P : Type 0} (x y : ℕ) → (x < y → P) → (x ≡ y → P) → (y < x → P) → P
 three-ways x y less same more =
-    ⊎-elim (λ z. ⊎-elim (λ z′. same (omega arith)) (λ o. more (omega arith)) (eq-zero-or-pos (x - y))) (λ o. less (omega arith)) (eq-zero-or-pos (y - x))
+    ⊎-elim (λ z. ⊎-elim (λ z′. same (omega arith)) (λ o. more (omega arith)) (eq-zero-or-pos (x - y))) (λ o. less (omega arith))
+    (eq-zero-or-pos (y - x))
 
 pub rows-apart : (n r r′ c c′ : ℕ) → c < n → c′ < n → Apart r r′ → Apart (r * n + c) (r′ * n + c′)
 rows-apart n r r′ c c′ h h′ ne e = three-ways r r′ (λ o. omega (arith, row-before n c′ h o)) ne (λ o. omega (arith, row-before n c h′ o))

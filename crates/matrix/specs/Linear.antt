@@ -11,10 +11,10 @@ use Rattle.loops.specs.Choice.{if_then_else_}
 use Rattle.loops.specs.Loop.{loop}
 use Rattle.loops.specs.Cell.{at, cell}
 use Rattle.loops.specs.Refusal.{Outcome, gives, refuses}
+use Rattle.loops.specs.Arithmetic.{_⊕_, _⊗_, _⊘_}
 use Rattle.matrix.specs.declared.linear.Solution.{Solution}
 use Rattle.matrix.specs.declared.linear.Solution.the-variants.{Solved, WrongSize, PivotOutside}
 use Rattle.matrix.specs.Size.{sizedOf}
-use Rattle.matrix.specs.Binary64.{add, mul, div}
 
 -- what a call comes to: its answer, then what `b` holds after it
 abbrev pub SolveOutcome : Type 0
@@ -52,7 +52,7 @@ swapped m k b = set (set b m (at b k)) k (at b m)
 
 -- `b[i] += a[(i, k)] * b[k]`
 unfoldable pub lowerTurn : ℕ → List Float → ℕ → ℕ → List Float → List Float
-lowerTurn n a k i b = set b i (add (at b i) (mul (cell n a i k) (at b k)))
+lowerTurn n a k i b = set b i (at b i ⊕ cell n a i k ⊗ at b k)
 
 -- the body of `for (k, &m) in ip`
 unfoldable pub forwardTurn : ℕ → List Float → List ℕ → ℕ → List Float → List Float
@@ -62,11 +62,11 @@ forwardTurn n a ip k b = loop (k + 1) n (lowerTurn n a k) (swapped (row ip k) k 
 
 -- `b[k] /= a[(k, k)]`
 unfoldable pub dividedOf : ℕ → List Float → ℕ → List Float → List Float
-dividedOf n a k b = set b k (div (at b k) (cell n a k k))
+dividedOf n a k b = set b k (at b k ⊘ cell n a k k)
 
 -- `b[i] += a[(i, k)] * -b[k]`
 unfoldable pub upperTurn : ℕ → List Float → ℕ → ℕ → List Float → List Float
-upperTurn n a k i b = set b i (add (at b i) (mul (cell n a i k) (Ieee.neg (at b k))))
+upperTurn n a k i b = set b i (at b i ⊕ cell n a i k ⊗ Ieee.neg (at b k))
 
 -- the body of `for kb in 1..n`, with k = n - kb
 unfoldable pub backTurn : ℕ → List Float → ℕ → List Float → List Float

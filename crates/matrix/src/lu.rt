@@ -1,12 +1,12 @@
 // LU decomposition with partial pivoting. Beside the Rust's matrix/lu.rs, the real half.
 ghost use mathlib.Core.Path.{_≡_};
-ghost use Prim.Native.Nat.{_+_, _-_, _*_, _<_};
+ghost use Prim.Native.Nat.{_+_, _-_, _*_, _≤_, _<_};
 ghost use lib.ListN.{length};
 ghost use Rattle.loops.specs.Cell.{cell};
 ghost use Rattle.loops.specs.Loop.{loop};
 ghost use Rattle.matrix.specs.Magnitude.{magnitudeOf};
 ghost use Rattle.matrix.specs.Lu.{factoringOf, pivotOf, exchangedOf, stageOf, stagesOf, lu_decompOf};
-ghost use Rattle.matrix.specs.Rows.{addedOf, cellTurn, rowTurn};
+ghost use Rattle.matrix.specs.Rows.{addedOf, cellTurn, rowTurn, Zeros};
 use crate::cell::get;
 use crate::cell::put;
 use crate::cell::sized;
@@ -74,12 +74,29 @@ fn added(x: f64, l: f64, t: f64) -> f64
     if t != 0.0 { x + l * t } else { x }
 }
 
-// Along row i: a[(i, j)] += a[(i, k)] * a[(k, j)], unless a[(k, j)] is zero. l is a[(i, k)], which the loop does not change.
-fn eliminate(a: &mut [f64], n: usize, k: usize, i: usize, l: f64)
-    requires { ⌜ (k < i) × (i < n) × (length (now a) ≡ n * n) × (cell n (now a) i k ≡ l) ⌝ }
-    ensures { λ _. ⌜ now (a .exit) ≡ loop (k + 1) n (cellTurn n k i) (now (a .entry)) ⌝ }
+// Where the zeros begin with which row k ends.
+fn reach(a: &[f64], n: usize, k: usize) -> usize
+    requires { ⌜ (k < n) × (length (now a) ≡ n * n) ⌝ }
+    ensures { λ r. ⌜ (k < r) × (r ≤ n) × Zeros n k r (now (a .entry)) ⌝ }
 {
-    for j in k + 1..n {
+    let mut end = n;
+    while k + 1 < end {
+        let last = end - 1;
+        if get(a, n, k, last) != 0.0 {
+            return end;
+        }
+        end = last;
+    }
+    end
+}
+
+// Along row i: a[(i, j)] += a[(i, k)] * a[(k, j)], unless a[(k, j)] is zero, as all are from `end` on. l is a[(i, k)], which the
+// loop does not change.
+fn eliminate(a: &mut [f64], n: usize, k: usize, i: usize, l: f64, end: usize)
+    requires { ⌜ (k < i) × (i < n) × (length (now a) ≡ n * n) × (cell n (now a) i k ≡ l) × (k < end) × (end ≤ n) × Zeros n k end (now a) ⌝ }
+    ensures { λ _. ⌜ (now (a .exit) ≡ loop (k + 1) n (cellTurn n k i) (now (a .entry))) × Zeros n k end (now (a .exit)) ⌝ }
+{
+    for j in k + 1..end {
         let t = get(a, n, k, j);
         let x = get(a, n, i, j);
         let y = added(x, l, t);
@@ -87,16 +104,17 @@ fn eliminate(a: &mut [f64], n: usize, k: usize, i: usize, l: f64)
     }
 }
 
-// Each row below k: its multiplier, with its sign turned, then the elimination along it.
+// Each row below k: its multiplier, with its sign turned, then the elimination along it, as far as row k reaches.
 fn rows(a: &mut [f64], n: usize, k: usize, t: f64)
     requires { ⌜ (k < n) × (length (now a) ≡ n * n) ⌝ }
     ensures { λ _. ⌜ now (a .exit) ≡ loop (k + 1) n (rowTurn n k t) (now (a .entry)) ⌝ }
 {
+    let end = reach(a, n, k);
     for i in k + 1..n {
         let x = get(a, n, i, k);
         let l = -x * t;
         put(a, n, i, k, l);
-        eliminate(a, n, k, i, l);
+        eliminate(a, n, k, i, l, end);
     }
 }
 

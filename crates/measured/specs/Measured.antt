@@ -3,20 +3,21 @@
 -- is the exponent -(k + 1).
 use mathlib.Core.Path.{_≡_, refl}
 use mathlib.Core.Bool.{true, false}
-use mathlib.Core.List.{List, [], _∷_}
+use mathlib.Core.List.{[], _∷_}
 use Prim.Native.Nat.{ℕ}
 use lib.IntN.{pos, negsuc}
 use lib.Ieee.{Float, nan, inf, fin, binary64, ofBits, ofInt, add, sub, mul, div, neg, eq, ne, lt, isNan}
 use Rattle.loops.specs.Choice.{if_then_else_}
 use Rattle.loops.specs.Loop.{loop, turns}
-use Rattle.loops.specs.Refusal.{Outcome, gives, refuses}
+use Rattle.loops.specs.Refusal.{gives, refuses}
+use Rattle.number.specs.Helpers.{absOf}
 use Rattle.number.specs.Roots.{sqrtOf, inverseRootOf}
 use Rattle.matrix.specs.Size.{sizedOf}
-use Rattle.matrix.specs.Magnitude.{absOf, magnitudeOf}
+use Rattle.matrix.specs.Magnitude.{magnitudeOf}
 use Rattle.matrix.specs.Lu.{pivotTurn, pivotOf, exchangedOf, scaleTurn, eliminateTurn, columnTurn, stageOf, lastOf, stagesOf, singleOf, lu_decompOf as luDecompOf}
 use Rattle.matrix.specs.Linear.{insideTurn, insideOf, lowerTurn, forwardTurn, dividedOf, upperTurn, backTurn, solvedOf, lin_solveOf as linSolveOf}
-use Rattle.bdf.specs.Rescale.{firstRow, mTurn, mRow, mTable, rTurn, rRow, rTable, computeR, scaledTurn, addScaled, productTurn, productRow, matmul, newRowTurn, newRow, newRows, copied, rescaled, changeD}
-use Rattle.bdf.specs.Interpolate.{orderOf}
+use Rattle.rules.specs.Rescale.{firstRow, mTurn, mRow, mTable, rTurn, rRow, rTable, computeR, scaledTurn, addScaled, productTurn, productRow, matmul, newRowTurn, newRow, newRows, copied, rescaled, changeD}
+use Rattle.interpolation.specs.Interpolate.{orderOf}
 
 -- a whole number of one binary digit or few, odd * 2 ^ e
 abbrev plus : ℕ → ℕ → Float

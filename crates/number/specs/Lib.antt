@@ -13,3 +13,4 @@ pub mod NoTie
 pub mod Units
 pub mod PatternRoots
 pub mod Meaning
+pub mod Unique

@@ -3,9 +3,9 @@ use mathlib.Core.Path.{_≡_}
 use Prim.Native.Nat.{_-_, _*_}
 use native.Mathlib.Omega.{arith}
 use borrow.Author.Needs.{needs}
-use Rattle.bdf.specs.LentLaws.{came-back}
-use Rattle.bdf.specs.Rescale.{changeD}
-use Rattle.bdf.specs.Attempt.{rescaledD}
+use Rattle.rules.specs.LentLaws.{came-back}
+use Rattle.rules.specs.Rescale.{changeD}
+use Rattle.rules.specs.Attempt.{rescaledD}
 use Rattle.bdf.proofs.aim.rescale_d.Statement.{statement}
 use Rattle.bdf.proofs.aim.rescale_d.Tie as tie
 

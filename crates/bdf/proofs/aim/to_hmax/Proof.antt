@@ -1,7 +1,7 @@
 -- `aim::to_hmax`: by the test of its definition. Assumes nothing.
 use borrow.Author.Needs.{needs}
 use Rattle.loops.specs.Choice.{if_then_else_}
-use Rattle.bdf.specs.Attempt.{toHmax}
+use Rattle.rules.specs.Attempt.{toHmax}
 use Rattle.bdf.proofs.aim.to_hmax.Statement.{statement}
 use Rattle.bdf.proofs.aim.to_hmax.Tie as tie
 

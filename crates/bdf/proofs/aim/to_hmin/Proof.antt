@@ -2,7 +2,7 @@
 use mathlib.Core.Logic.{⊎-elim}
 use borrow.Author.Needs.{needs}
 use Rattle.loops.specs.Choice.{if_then_else_}
-use Rattle.bdf.specs.Attempt.{toHmin}
+use Rattle.rules.specs.Attempt.{toHmin}
 use Rattle.bdf.proofs.aim.to_hmin.Statement.{statement}
 use Rattle.bdf.proofs.aim.to_hmin.Tie as tie
 

@@ -1,12 +1,13 @@
 -- `attempt::fit`: to the greatest step, then to the least. Assumes nothing.
 use borrow.Author.Needs.{needs}
-use Rattle.bdf.specs.Attempt.{fitted}
+use Rattle.rules.specs.Attempt.{fitted}
 use Rattle.bdf.proofs.attempt.fit.Statement.{statement}
 use Rattle.bdf.proofs.attempt.fit.Tie as tie
 
 returns : tie.Need-returns
 unfolding fitted
-returns c = rw (← c .before .before .before .before .before .before .to-hmax .ensures) (c .before .before .to-hmin .ensures)
+returns c =
+    λ pivot. rw (← c .before .before .before .before .before .before .to-hmax .ensures) (c .before .before .to-hmin .ensures)
 
 pub fit-spec : {M : Type 1} → statement M
 fit-spec =

@@ -4,8 +4,8 @@ use native.Mathlib.Omega.{arith}
 use borrow.Author.Needs.{needs}
 use borrow.Author.Tests.{lt-ltb, le-ltb, eq-eqb, ne-eqb}
 use Rattle.loops.specs.Choice.{if_then_else_}
-use Rattle.bdf.specs.Begin.{beginOf}
-use Rattle.bdf.specs.CheckLaws.{cleared}
+use Rattle.rules.specs.Begin.{beginOf}
+use Rattle.rules.specs.CheckLaws.{cleared}
 use Rattle.bdf.proofs.begin.begin.Statement.{statement}
 use Rattle.bdf.proofs.begin.begin.Tie as tie
 

@@ -5,9 +5,9 @@ use native.Mathlib.Omega.{arith}
 use borrow.Author.Needs.{needs}
 use lib.ListN.{length}
 use lib.Seq.{length-take-le}
-use Rattle.bdf.specs.Types.{Progress}
-use Rattle.bdf.specs.NeededLaws.{room-needed, beyond-kept}
-use Rattle.bdf.specs.Begin.{kept, beginRun}
+use Rattle.rules.specs.declared.types.Progress.{Progress}
+use Rattle.rules.specs.NeededLaws.{room-needed, beyond-kept}
+use Rattle.rules.specs.Begin.{kept, beginRun}
 use Rattle.bdf.proofs.begin.begin_run.Statement.{statement}
 use Rattle.bdf.proofs.begin.begin_run.Tie as tie
 

@@ -1,6 +1,6 @@
 -- `begin::derived_tol` is its formula. Assumes nothing.
 use borrow.Author.Needs.{needs}
-use Rattle.bdf.specs.Begin.{derivedTol}
+use Rattle.rules.specs.Begin.{derivedTol}
 use Rattle.bdf.proofs.begin.derived_tol.Statement.{statement}
 use Rattle.bdf.proofs.begin.derived_tol.Tie as tie
 

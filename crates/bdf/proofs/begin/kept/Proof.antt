@@ -1,6 +1,6 @@
 -- `begin::kept`: each part by its own call. Assumes nothing.
 use borrow.Author.Needs.{needs}
-use Rattle.bdf.specs.Begin.{kept}
+use Rattle.rules.specs.Begin.{kept}
 use Rattle.bdf.proofs.begin.kept.Statement.{statement}
 use Rattle.bdf.proofs.begin.kept.Tie as tie
 

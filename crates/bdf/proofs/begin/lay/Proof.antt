@@ -1,6 +1,6 @@
 -- `begin::lay`: zeros, then the three vectors, each in its row of the 33. Assumes nothing.
 use borrow.Author.Needs.{needs}
-use Rattle.bdf.specs.Begin.{beginWs}
+use Rattle.rules.specs.Begin.{beginWs}
 use Rattle.bdf.proofs.begin.lay.Statement.{statement}
 use Rattle.bdf.proofs.begin.lay.Tie as tie
 

@@ -1,7 +1,7 @@
 -- `begin::lay_tolerances` goes by the same cases as its definition. Assumes nothing.
 use native.Mathlib.Omega.{arith}
 use borrow.Author.Needs.{needs}
-use Rattle.bdf.specs.CheckLaws.{vector-reaches}
+use Rattle.rules.specs.CheckLaws.{vector-reaches}
 use Rattle.bdf.proofs.begin.lay_tolerances.Statement.{statement}
 use Rattle.bdf.proofs.begin.lay_tolerances.Tie as tie
 

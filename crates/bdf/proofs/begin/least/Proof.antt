@@ -5,8 +5,8 @@ use native.Mathlib.Omega.{arith}
 use borrow.Author.Needs.{needs}
 use lib.Ieee.{inf}
 use Rattle.loops.specs.Loop.{Turned, turn-none, turn-more, turn-all}
-use Rattle.bdf.specs.Begin.{leastTurn, least}
-use Rattle.bdf.specs.CheckLaws.{reaches-each}
+use Rattle.rules.specs.Begin.{leastTurn, least}
+use Rattle.rules.specs.CheckLaws.{reaches-each}
 use Rattle.bdf.proofs.begin.least.Statement.{statement}
 use Rattle.bdf.proofs.begin.least.Tie as tie
 

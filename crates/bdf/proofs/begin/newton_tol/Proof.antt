@@ -1,7 +1,7 @@
 -- `begin::newton_tol` goes by the same test as its definition. Assumes nothing.
 use borrow.Author.Needs.{needs}
 use Rattle.loops.specs.Choice.{if_then_else_}
-use Rattle.bdf.specs.Begin.{newtonTol}
+use Rattle.rules.specs.Begin.{newtonTol}
 use Rattle.bdf.proofs.begin.newton_tol.Statement.{statement}
 use Rattle.bdf.proofs.begin.newton_tol.Tie as tie
 

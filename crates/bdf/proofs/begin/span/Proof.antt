@@ -1,6 +1,6 @@
 -- `begin::span`: each field by its own call. Assumes nothing.
 use borrow.Author.Needs.{needs}
-use Rattle.bdf.specs.Begin.{spanOf}
+use Rattle.rules.specs.Begin.{spanOf}
 use Rattle.bdf.proofs.begin.span.Statement.{statement}
 use Rattle.bdf.proofs.begin.span.Tie as tie
 

@@ -2,7 +2,7 @@
 use borrow.Author.Needs.{needs}
 use borrow.Author.Tests.{lt-ltb, le-ltb}
 use Rattle.loops.specs.Choice.{if_then_else_}
-use Rattle.bdf.specs.Checks.{checked}
+use Rattle.rules.specs.Checks.{checked}
 use Rattle.bdf.proofs.checks.checked.Statement.{statement}
 use Rattle.bdf.proofs.checks.checked.Tie as tie
 

@@ -2,7 +2,7 @@
 use borrow.Author.Needs.{needs}
 use borrow.Author.Tests.{eq-eqb, ne-eqb, lt-ltb, le-ltb}
 use Rattle.loops.specs.Choice.{if_then_else_}
-use Rattle.bdf.specs.Checks.{limited}
+use Rattle.rules.specs.Checks.{limited}
 use Rattle.bdf.proofs.checks.limited.Statement.{statement}
 use Rattle.bdf.proofs.checks.limited.Tie as tie
 

@@ -3,7 +3,7 @@ use mathlib.Core.Path.{_≡_, sym, _∙_}
 use borrow.Author.Needs.{needs}
 use borrow.Author.Tests.{not-true, not-false}
 use Rattle.loops.specs.Choice.{if_then_else_}
-use Rattle.bdf.specs.Checks.{tolerancesChecked}
+use Rattle.rules.specs.Checks.{tolerancesChecked}
 use Rattle.bdf.proofs.checks.tolerances_checked.Statement.{statement}
 use Rattle.bdf.proofs.checks.tolerances_checked.Tie as tie
 

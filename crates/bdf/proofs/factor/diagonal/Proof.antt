@@ -1,6 +1,6 @@
 -- `factor::diagonal`: one entry read, and one put. Assumes nothing.
 use borrow.Author.Needs.{needs}
-use Rattle.bdf.specs.Factor.{diagonal}
+use Rattle.rules.specs.Factor.{diagonal}
 use Rattle.bdf.proofs.factor.diagonal.Statement.{statement}
 use Rattle.bdf.proofs.factor.diagonal.Tie as tie
 

@@ -1,18 +1,18 @@
 -- `factor::factor`: the matrix, then lu_decomp on the part where it stands and on the first n pivots; whatever it answers, what
 -- it left there is kept. Assumes nothing.
+use borrow.Author.Needs.{needs}
 use mathlib.Core.Path.{_≡_, ap}
 use mathlib.Core.List.{List, _++_}
 use mathlib.Core.Bool.{Bool}
 use Prim.Native.Nat.{ℕ, _+_, _-_, _*_}
 use native.Mathlib.Omega.{arith}
-use borrow.Author.Needs.{needs}
 use lib.ListN.{take, drop, length-take}
 use lib.Ieee.{Float}
 use Rattle.loops.specs.Part.{part, over}
 use Rattle.loops.specs.Refusal.{Outcome}
 use Rattle.matrix.specs.Lu.{lu_decompOf as luDecompOf, LuOutcome, factoringOf}
-use Rattle.bdf.specs.State.{left}
-use Rattle.bdf.specs.Factor.{matrix, factored, went}
+use Rattle.rules.specs.State.{left}
+use Rattle.rules.specs.Factor.{matrix, factored, went}
 use Rattle.bdf.proofs.factor.factor.Statement.{statement}
 use Rattle.bdf.proofs.factor.factor.Tie as tie
 
@@ -27,22 +27,20 @@ factors n c pivot ip ws w a said ok first second third =
     rw (square, ← first, ← answered, third)
 
 slice-aggregate-lu-decomp : tie.Need-slice-aggregate-lu-decomp
-slice-aggregate-lu-decomp c = simp length-take (omega arith)
+slice-aggregate-lu-decomp c =
+    simp length-take (omega arith)
 
 returns : tie.Need-returns
 returns c =
-    let factoring = c .before .before .before .before .before in
-    factors _ _ _ _ _ _ _ _ _ (factoring .before .before .before .before .before .matrix-rows .ensures) (factoring .lu-decomp .ensures) (ap (λ s. went (factoringOf s)) (c .enum-told .given .1))
+    factors _ _ _ _ _ _ _ _ _ (c .before .before .before .before .before .before .before .before .before .before .before .matrix-rows .ensures) (c .before .before .before .before .before .before .lu-decomp .ensures) (ap (λ s. went (factoringOf s)) (c .enum-told .given .1))
 
 returns-2 : tie.Need-returns-2
 returns-2 c =
-    let factoring = c .before .before .before .before .before in
-    factors _ _ _ _ _ _ _ _ _ (factoring .before .before .before .before .before .matrix-rows .ensures) (factoring .lu-decomp .ensures) (ap (λ s. went (factoringOf s)) (c .enum-told2 .given .1))
+    factors _ _ _ _ _ _ _ _ _ (c .before .before .before .before .before .before .before .before .before .before .before .matrix-rows .ensures) (c .before .before .before .before .before .before .lu-decomp .ensures) (ap (λ s. went (factoringOf s)) (c .enum-told2 .given .1))
 
 returns-3 : tie.Need-returns-3
 returns-3 c =
-    let factoring = c .before .before .before .before .before in
-    factors _ _ _ _ _ _ _ _ _ (factoring .before .before .before .before .before .matrix-rows .ensures) (factoring .lu-decomp .ensures) (ap (λ s. went (factoringOf s)) (c .enum-told3 .given .1))
+    factors _ _ _ _ _ _ _ _ _ (c .before .before .before .before .before .before .before .before .before .before .before .matrix-rows .ensures) (c .before .before .before .before .before .before .lu-decomp .ensures) (ap (λ s. went (factoringOf s)) (c .enum-told3 .given .1))
 
 pub factor-spec : {M : Type 1} → statement M
 factor-spec =
@@ -64,8 +62,11 @@ factor-spec =
     (λ c. search needs)
     (λ c. search needs)
     (λ c. search needs)
+    (λ c. search needs)
     returns
     (λ c. search needs)
+    (λ c. search needs)
     returns-2
+    (λ c. search needs)
     (λ c. search needs)
     returns-3)

@@ -5,8 +5,8 @@ use native.Mathlib.Nat.{mul-le-mul}
 use native.Mathlib.Omega.{arith}
 use borrow.Author.Needs.{needs}
 use borrow.Author.Tests.{lt-ltb, le-ltb}
-use Rattle.bdf.specs.GoOn.{countersDamaged}
-use Rattle.bdf.specs.DamageLaws.{limited, stepped, derivatives-bounded}
+use Rattle.rules.specs.GoOn.{countersDamaged}
+use Rattle.rules.specs.DamageLaws.{limited, stepped, derivatives-bounded}
 use Rattle.bdf.proofs.go_on.counters_damaged.Statement.{statement}
 use Rattle.bdf.proofs.go_on.counters_damaged.Tie as tie
 

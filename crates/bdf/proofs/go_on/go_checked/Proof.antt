@@ -1,25 +1,29 @@
 -- `go_on::go_checked` goes by the tests of its definition, one answer a way. Assumes nothing.
-use mathlib.Core.Path.{_≡_, sym, _∙_}
 use borrow.Author.Needs.{needs}
+use mathlib.Core.Path.{_≡_, sym, _∙_}
 use Rattle.loops.specs.Choice.{if_then_else_}
-use Rattle.bdf.specs.GoOn.{goChecked}
-use Rattle.bdf.specs.GoOnLaws.{few-undamaged}
+use Rattle.rules.specs.GoOn.{goChecked}
+use Rattle.rules.specs.GoOnLaws.{few-undamaged}
 use Rattle.bdf.proofs.go_on.go_checked.Statement.{statement}
 use Rattle.bdf.proofs.go_on.go_checked.Tie as tie
 
 returns : tie.Need-returns
 unfolding goChecked if_then_else_
-returns c = rw (← c .before .damaged .ensures, c .if1 .taken)
+returns c =
+    rw (← c .before .damaged .ensures, c .if1 .taken)
 
 returns-2 : tie.Need-returns-2
 unfolding goChecked if_then_else_
-returns-2 c = rw (← c .before .before .before .damaged .ensures, c .before .before .if1 .left, ← c .before .is-ended .ensures, c .if2 .taken)
+returns-2 c =
+    rw (← c .before .before .before .damaged .ensures, c .before .before .if1 .left, ← c .before .is-ended .ensures, c .if2 .taken)
 
 wanted-requires : tie.Need-wanted-requires
-wanted-requires c κs = few-undamaged (c .before .before .before .before .args .w) (c .before .before .before .before .args .p) (sym (c .before .before .before .damaged .ensures) ∙ c .before .before .if1 .left)
+wanted-requires c κs =
+    few-undamaged (c .before .before .before .before .before .args .w) (c .before .before .before .before .before .args .p) (sym (c .before .before .before .damaged .ensures) ∙ c .before .before .if1 .left)
 
 count-checked-requires : tie.Need-count-checked-requires
-count-checked-requires c κs = few-undamaged (c .before .before .before .before .before .args .w) (c .before .before .before .before .before .args .p) (sym (c .before .before .before .before .damaged .ensures) ∙ c .before .before .before .if1 .left)
+count-checked-requires c κs =
+    few-undamaged (c .before .before .before .before .before .before .args .w) (c .before .before .before .before .before .before .args .p) (sym (c .before .before .before .before .damaged .ensures) ∙ c .before .before .before .if1 .left)
 
 returns-3 : tie.Need-returns-3
 unfolding goChecked if_then_else_

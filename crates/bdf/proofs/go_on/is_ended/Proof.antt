@@ -3,8 +3,8 @@ use mathlib.Core.Path.{_≡_, refl}
 use mathlib.Core.List.{[], _∷_}
 use mathlib.Core.Bool.{false}
 use borrow.Author.Needs.{needs}
-use Rattle.bdf.specs.Types.{Awaited}
-use Rattle.bdf.specs.Replies.{isEnded}
+use Rattle.rules.specs.declared.types.Awaited.{Awaited}
+use Rattle.rules.specs.Replies.{isEnded}
 use Rattle.bdf.proofs.AwaitedLaws.{of-one}
 use Rattle.bdf.proofs.go_on.is_ended.Statement.{statement}
 use Rattle.bdf.proofs.go_on.is_ended.Tie as tie

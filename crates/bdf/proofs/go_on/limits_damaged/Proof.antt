@@ -1,6 +1,6 @@
 -- `go_on::limits_damaged` goes through the bounds one by one. Assumes nothing.
 use borrow.Author.Tests.{le-leb, lt-leb}
-use Rattle.bdf.specs.GoOn.{limitsDamaged}
+use Rattle.rules.specs.GoOn.{limitsDamaged}
 use Rattle.bdf.proofs.go_on.limits_damaged.Statement.{statement}
 use Rattle.bdf.proofs.go_on.limits_damaged.Tie as tie
 

@@ -1,12 +1,13 @@
 -- `go_on::pivot_outside`: none found below i; the first that is found decides. Assumes nothing.
+use borrow.Author.Needs.{needs}
 use mathlib.Core.Path.{_≡_, sym}
 use mathlib.Core.Bool.{false}
 use Prim.Native.Nat.{_-_}
 use native.Mathlib.Omega.{arith}
 use borrow.Author.Tests.{lt-leb}
 use Rattle.loops.specs.Loop.{Turned, turn-none, turn-more, turn-all}
-use Rattle.bdf.specs.GoOn.{pivotTurn, pivotOutside}
-use Rattle.bdf.specs.DamageLaws.{pivot-found}
+use Rattle.rules.specs.GoOn.{pivotTurn, pivotOutside}
+use Rattle.rules.specs.DamageLaws.{pivot-found}
 use Rattle.bdf.proofs.go_on.pivot_outside.Statement.{statement}
 use Rattle.bdf.proofs.go_on.pivot_outside.Tie as tie
 
@@ -17,18 +18,42 @@ abbrev μ-loop : tie.MeasureT-loop
 μ-loop n pivot i₀ i = n - i
 
 loop-holds : tie.Need-loop-holds Inv-loop μ-loop
-loop-holds c = turn-none (omega arith)
+loop-holds c =
+    turn-none (omega arith)
+
+add-loop : tie.Need-add-loop Inv-loop μ-loop
+add-loop c =
+    omega arith
+
+mul-if1 : tie.Need-mul-if1 Inv-loop μ-loop
+mul-if1 c =
+    omega arith
+
+shared-slice-read-if1 : tie.Need-shared-slice-read-if1 Inv-loop μ-loop
+shared-slice-read-if1 c =
+    omega arith
 
 returns : tie.Need-returns Inv-loop μ-loop
-returns c = pivot-found _ (c .before .loop-test .taken) (c .before .before .loop .inv) (c .if1 .taken)
+returns c =
+    pivot-found _ (c .before .before .loop-test .taken) (c .before .before .before .loop .inv) (c .if1 .taken)
+
+add-i : tie.Need-add-i Inv-loop μ-loop
+add-i c =
+    omega arith
+
+loop-less : tie.Need-loop-less Inv-loop μ-loop
+loop-less c =
+    omega arith
 
 loop-again : tie.Need-loop-again Inv-loop μ-loop
 unfolding pivotTurn
-loop-again c = turn-more (c .before .before .loop .inv) (omega arith) (sym (lt-leb _ _ (c .if1 .left)))
+loop-again c =
+    turn-more (c .before .before .before .loop .inv) (omega arith) (sym (lt-leb _ _ (c .if1 .left)))
 
 returns-2 : tie.Need-returns-2 Inv-loop μ-loop
 unfolding pivotOutside
-returns-2 c = turn-all (c .before .loop .inv) (omega arith)
+returns-2 c =
+    turn-all (c .before .loop .inv) (omega arith)
 
 pub pivot-outside-spec : {M : Type 1} → statement M
 pivot-outside-spec =
@@ -37,11 +62,11 @@ pivot-outside-spec =
     Inv-loop
     μ-loop
     loop-holds
-    (λ c. omega arith)
-    (λ c. omega arith)
-    (λ c. omega arith)
+    add-loop
+    mul-if1
+    shared-slice-read-if1
     returns
-    (λ c. omega arith)
-    (λ c. omega arith)
+    add-i
+    loop-less
     loop-again
     returns-2)

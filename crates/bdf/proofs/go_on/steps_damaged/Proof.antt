@@ -2,8 +2,8 @@
 use native.Mathlib.Omega.{arith}
 use borrow.Author.Needs.{needs}
 use borrow.Author.Tests.{lt-ltb, le-ltb}
-use Rattle.bdf.specs.GoOn.{stepsDamaged}
-use Rattle.bdf.specs.DamageLaws.{rejected-above, accepted-above, within-total}
+use Rattle.rules.specs.GoOn.{stepsDamaged}
+use Rattle.rules.specs.DamageLaws.{rejected-above, accepted-above, within-total}
 use Rattle.bdf.proofs.go_on.steps_damaged.Statement.{statement}
 use Rattle.bdf.proofs.go_on.steps_damaged.Tie as tie
 

@@ -4,8 +4,8 @@ use mathlib.Core.List.{[], _∷_}
 use native.Mathlib.Nat.{mul-le-mul}
 use native.Mathlib.Omega.{arith}
 use borrow.Author.Needs.{needs}
-use Rattle.bdf.specs.Types.{Awaited}
-use Rattle.bdf.specs.Replies.{wants}
+use Rattle.rules.specs.declared.types.Awaited.{Awaited}
+use Rattle.rules.specs.Replies.{wants}
 use Rattle.bdf.proofs.AwaitedLaws.{of-one}
 use Rattle.bdf.proofs.go_on.wanted.Statement.{statement}
 use Rattle.bdf.proofs.go_on.wanted.Tie as tie

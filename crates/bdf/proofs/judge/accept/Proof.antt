@@ -1,6 +1,6 @@
 -- `judge::accept`: its stages one after the other. Assumes nothing.
 use borrow.Author.Needs.{needs}
-use Rattle.bdf.specs.Judge.{acceptedWs}
+use Rattle.rules.specs.Judge.{acceptedWs}
 use Rattle.bdf.proofs.judge.accept.Statement.{statement}
 use Rattle.bdf.proofs.judge.accept.Tie as tie
 

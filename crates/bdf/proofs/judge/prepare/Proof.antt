@@ -6,8 +6,8 @@ use lib.Dec.{le→leb}
 use lib.Ieee.{inFloat}
 use lib.ListN.{length}
 use Rattle.loops.specs.Loop.{Turned, turn-none, turn-more, turn-all}
-use Rattle.bdf.specs.ReadyLaws.{room-kept}
-use Rattle.bdf.specs.Judge.{contTurn, prepared}
+use Rattle.rules.specs.ReadyLaws.{room-kept}
+use Rattle.rules.specs.Judge.{contTurn, prepared}
 use Rattle.bdf.proofs.judge.prepare.Statement.{statement}
 use Rattle.bdf.proofs.judge.prepare.Tie as tie
 

@@ -4,7 +4,7 @@ use Prim.Native.Nat.{_+_, _^_}
 use native.Mathlib.Omega.{arith}
 use lib.Dec.{le→leb}
 use lib.Ieee.{inFloat}
-use Rattle.bdf.specs.Judge.{safetyOf}
+use Rattle.rules.specs.Judge.{safetyOf}
 use Rattle.bdf.proofs.judge.safety.Statement.{statement}
 use Rattle.bdf.proofs.judge.safety.Tie as tie
 

@@ -4,7 +4,7 @@ use Prim.Native.Nat.{_-_}
 use native.Mathlib.Omega.{arith}
 use lib.ListN.{length, length-set}
 use Rattle.loops.specs.Loop.{Turned, turn-none, turn-more, turn-all}
-use Rattle.bdf.specs.Moves.{loadTurn, loaded}
+use Rattle.rules.specs.Moves.{loadTurn, loaded}
 use Rattle.bdf.proofs.moves.load.Statement.{statement}
 use Rattle.bdf.proofs.moves.load.Tie as tie
 

@@ -4,7 +4,7 @@ use Prim.Native.Nat.{_-_}
 use native.Mathlib.Omega.{arith}
 use lib.ListN.{length}
 use Rattle.loops.specs.Loop.{Turned, turn-none, turn-more, turn-all}
-use Rattle.bdf.specs.Newton.{advanceTurn, advanced}
+use Rattle.rules.specs.Newton.{advanceTurn, advanced}
 use Rattle.bdf.proofs.newton.advance.Statement.{statement}
 use Rattle.bdf.proofs.newton.advance.Tie as tie
 

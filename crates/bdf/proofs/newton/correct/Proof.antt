@@ -1,15 +1,13 @@
 -- `newton::correct`: its callees one after the other. Assumes nothing.
 use borrow.Author.Needs.{needs}
-use Rattle.bdf.specs.Newton.{correction}
+use Rattle.rules.specs.Newton.{correction}
 use Rattle.bdf.proofs.newton.correct.Statement.{statement}
 use Rattle.bdf.proofs.newton.correct.Tie as tie
 
 returns : tie.Need-returns
 unfolding correction
 returns c =
-    let residue = c .before .before .before .before .before .before in
-    let loading = residue .before .before .before .before in
-    rw (residue .residual .ensures, loading .load .ensures, loading .before .row .ensures) at (c .before .before .solve .ensures)
+    rw (c .before .before .before .before .before .before .residual .ensures, c .before .before .before .before .before .before .before .before .before .before .load .ensures, c .before .before .before .before .before .before .before .before .before .before .before .row .ensures) at (c .before .before .solve .ensures)
 
 pub correct-spec : {M : Type 1} → statement M
 correct-spec =

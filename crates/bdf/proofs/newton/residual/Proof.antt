@@ -4,7 +4,7 @@ use Prim.Native.Nat.{_-_}
 use native.Mathlib.Omega.{arith}
 use lib.ListN.{length}
 use Rattle.loops.specs.Loop.{Turned, turn-none, turn-more, turn-all}
-use Rattle.bdf.specs.Newton.{residualTurn, residual}
+use Rattle.rules.specs.Newton.{residualTurn, residual}
 use Rattle.bdf.proofs.newton.residual.Statement.{statement}
 use Rattle.bdf.proofs.newton.residual.Tie as tie
 

@@ -1,6 +1,6 @@
 -- `newton::settled`: the test of its definition. Assumes nothing.
 use Rattle.loops.specs.Choice.{if_then_else_}
-use Rattle.bdf.specs.Newton.{settled}
+use Rattle.rules.specs.Newton.{settled}
 use Rattle.bdf.proofs.newton.settled.Statement.{statement}
 use Rattle.bdf.proofs.newton.settled.Tie as tie
 

@@ -1,18 +1,18 @@
 -- `newton::solve_by`: b takes the right side, lin_solve puts the solution in its place, and rhs takes that. Assumes nothing.
+use borrow.Author.Needs.{needs}
 use mathlib.Core.Path.{_≡_, _∙_}
 use mathlib.Core.List.{List}
 use Prim.Native.Nat.{ℕ, _+_, _-_, _*_, _≤_}
 use native.Mathlib.Omega.{arith}
-use borrow.Author.Needs.{needs}
 use lib.ListN.{length, take, length-take}
 use lib.Ieee.{Float}
 use Rattle.loops.specs.Part.{part}
 use Rattle.loops.specs.Refusal.{Outcome}
 use Rattle.matrix.specs.Linear.{lin_solveOf as linSolveOf, SolveOutcome}
-use Rattle.bdf.specs.Places.{rhs, row}
-use Rattle.bdf.specs.Moves.{loaded}
-use Rattle.bdf.specs.PartLaws.{loaded-whole, loaded-part}
-use Rattle.bdf.specs.Newton.{solved}
+use Rattle.rules.specs.Places.{rhs, row}
+use Rattle.rules.specs.Moves.{loaded}
+use Rattle.rules.specs.PartLaws.{loaded-whole, loaded-part}
+use Rattle.rules.specs.Newton.{solved}
 use Rattle.bdf.proofs.newton.solve_by.Statement.{statement}
 use Rattle.bdf.proofs.newton.solve_by.Tie as tie
 
@@ -28,15 +28,13 @@ solves n pivot ws b₀ b₁ b₂ after said whole within same first second third
     rw (← right, ← answered) (third ∙ back)
 
 slice-aggregate-lin-solve : tie.Need-slice-aggregate-lin-solve
-slice-aggregate-lin-solve c = simp length-take (omega arith)
+slice-aggregate-lin-solve c =
+    simp length-take (omega arith)
 
 returns : tie.Need-returns
 returns c =
-    let solving = c .before .before .before .before .before .before .before in
-    let loading = solving .before .before .before .before .before .before .before in
-    let start = loading .before .before .before .before .before .before in
-    let place = loading .before .before .before .row .ensures in
-    solves _ _ _ _ _ _ _ _ (start .pre .1) (omega arith) (omega arith) (rw place at (loading .load .ensures)) (solving .lin-solve .ensures) (rw place at (c .before .before .load2 .ensures))
+    let place = c .before .before .before .before .before .before .before .before .before .before .before .before .before .before .before .before .before .row .ensures in
+    solves _ _ _ _ _ _ _ _ (c .before .before .before .before .before .before .before .before .before .before .before .before .before .before .before .before .before .before .before .before .before .pre .1) (omega arith) (omega arith) (rw place at (c .before .before .before .before .before .before .before .before .before .before .before .before .before .before .load .ensures)) (c .before .before .before .before .before .before .before .lin-solve .ensures) (rw place at (c .before .before .load2 .ensures))
 
 pub solve-by-spec : {M : Type 1} → statement M
 solve-by-spec =
@@ -48,7 +46,6 @@ solve-by-spec =
     (λ c. search needs)
     (λ c. search needs)
     (λ c κs. search needs)
-    (λ c. search needs)
     (λ c. search needs)
     (λ c. search needs)
     (λ c. search needs)

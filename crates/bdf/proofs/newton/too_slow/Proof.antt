@@ -1,7 +1,7 @@
 -- `newton::too_slow`: the test of its definition. Assumes nothing.
 use borrow.Author.Needs.{needs}
 use Rattle.loops.specs.Choice.{if_then_else_}
-use Rattle.bdf.specs.Newton.{tooSlow}
+use Rattle.rules.specs.Newton.{tooSlow}
 use Rattle.bdf.proofs.newton.too_slow.Statement.{statement}
 use Rattle.bdf.proofs.newton.too_slow.Tie as tie
 

@@ -4,7 +4,7 @@ use borrow.Author.Needs.{needs}
 use native.Mathlib.Omega.{arith}
 use lib.Dec.{le→leb}
 use lib.Ieee.{inFloat}
-use Rattle.bdf.specs.Norm.{rhsNorm}
+use Rattle.rules.specs.Norm.{rhsNorm}
 use Rattle.bdf.proofs.norm.rhs_norm.Statement.{statement}
 use Rattle.bdf.proofs.norm.rhs_norm.Tie as tie
 

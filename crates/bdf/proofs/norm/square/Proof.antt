@@ -1,7 +1,7 @@
 -- `norm::square`: the test of its definition, both ways. Assumes nothing.
 use mathlib.Core.Logic.{⊎-elim}
 use Rattle.loops.specs.Choice.{if_then_else_}
-use Rattle.bdf.specs.Norm.{squareOf}
+use Rattle.rules.specs.Norm.{squareOf}
 use Rattle.bdf.proofs.norm.square.Statement.{statement}
 use Rattle.bdf.proofs.norm.square.Tie as tie
 

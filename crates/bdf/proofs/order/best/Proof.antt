@@ -1,6 +1,6 @@
 -- `order::best`: the tests of its definition. Assumes nothing.
 use Rattle.loops.specs.Choice.{if_then_else_}
-use Rattle.bdf.specs.Order.{bestOf}
+use Rattle.rules.specs.Order.{bestOf}
 use Rattle.bdf.proofs.order.best.Statement.{statement}
 use Rattle.bdf.proofs.order.best.Tie as tie
 

@@ -1,7 +1,7 @@
 -- `order::choose`: its callees one after the other. Assumes nothing.
 use borrow.Author.Needs.{needs}
 use native.Mathlib.Nat.{add-zero}
-use Rattle.bdf.specs.Order.{choiceOf}
+use Rattle.rules.specs.Order.{choiceOf}
 use Rattle.bdf.proofs.order.choose.Statement.{statement}
 use Rattle.bdf.proofs.order.choose.Tie as tie
 

@@ -2,7 +2,7 @@
 use borrow.Author.Needs.{needs}
 use borrow.Author.Tests.{lt-ltb, le-ltb}
 use Rattle.loops.specs.Choice.{if_then_else_}
-use Rattle.bdf.specs.Order.{errP}
+use Rattle.rules.specs.Order.{errP}
 use Rattle.bdf.proofs.order.err_p.Statement.{statement}
 use Rattle.bdf.proofs.order.err_p.Tie as tie
 

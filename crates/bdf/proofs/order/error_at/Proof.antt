@@ -1,6 +1,6 @@
 -- `order::error_at`: the weighing, then the norm of what it left. Assumes nothing.
 use borrow.Author.Needs.{needs}
-use Rattle.bdf.specs.Order.{errorAt}
+use Rattle.rules.specs.Order.{errorAt}
 use Rattle.bdf.proofs.order.error_at.Statement.{statement}
 use Rattle.bdf.proofs.order.error_at.Tie as tie
 

@@ -7,8 +7,8 @@ use borrow.Author.Needs.{needs}
 use borrow.Author.Tests.{eq-eqb, ne-eqb, ltb-true}
 use lib.Dec.{eqb, ltb}
 use Rattle.loops.specs.Choice.{if_then_else_, and-passes, and-fails}
-use Rattle.bdf.specs.Tables.{maxOrder}
-use Rattle.bdf.specs.Order.{newOrder}
+use Rattle.rules.specs.Tables.{maxOrder}
+use Rattle.rules.specs.Order.{newOrder}
 use Rattle.bdf.proofs.order.new_order.Statement.{statement}
 use Rattle.bdf.proofs.order.new_order.Tie as tie
 

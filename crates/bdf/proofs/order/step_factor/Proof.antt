@@ -1,6 +1,6 @@
 -- `order::step_factor`: its callees one after the other. Assumes nothing.
 use borrow.Author.Needs.{needs}
-use Rattle.bdf.specs.Order.{stepFactor}
+use Rattle.rules.specs.Order.{stepFactor}
 use Rattle.bdf.proofs.order.step_factor.Statement.{statement}
 use Rattle.bdf.proofs.order.step_factor.Tie as tie
 

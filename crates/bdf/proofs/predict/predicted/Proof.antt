@@ -2,7 +2,7 @@
 use Prim.Native.Nat.{_-_, _+_}
 use native.Mathlib.Omega.{arith}
 use Rattle.loops.specs.Loop.{Turned, turn-none, turn-more, turn-all}
-use Rattle.bdf.specs.Predict.{predictedTurn, predicted}
+use Rattle.rules.specs.Predict.{predictedTurn, predicted}
 use Rattle.bdf.proofs.predict.predicted.Statement.{statement}
 use Rattle.bdf.proofs.predict.predicted.Tie as tie
 

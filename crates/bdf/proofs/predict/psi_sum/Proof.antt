@@ -2,7 +2,7 @@
 use Prim.Native.Nat.{_-_, _+_}
 use native.Mathlib.Omega.{arith}
 use Rattle.loops.specs.Loop.{Turned, turn-none, turn-more, turn-all}
-use Rattle.bdf.specs.Predict.{psiSumTurn, psiSum}
+use Rattle.rules.specs.Predict.{psiSumTurn, psiSum}
 use Rattle.bdf.proofs.predict.psi_sum.Statement.{statement}
 use Rattle.bdf.proofs.predict.psi_sum.Tie as tie
 

@@ -4,8 +4,8 @@ use Prim.Native.Nat.{_-_}
 use native.Mathlib.Omega.{arith}
 use lib.ListN.{length}
 use Rattle.loops.specs.Loop.{Turned, turn-none, turn-more, turn-all}
-use Rattle.bdf.specs.ReadyLaws.{room-kept}
-use Rattle.bdf.specs.Predict.{scaleTurn, scaled}
+use Rattle.rules.specs.ReadyLaws.{room-kept}
+use Rattle.rules.specs.Predict.{scaleTurn, scaled}
 use Rattle.bdf.proofs.predict.rescale.Statement.{statement}
 use Rattle.bdf.proofs.predict.rescale.Tie as tie
 

@@ -1,7 +1,7 @@
 -- `predict::scale_of`: the test of its definition, both ways. Assumes nothing.
 use borrow.Author.Needs.{needs}
 use Rattle.loops.specs.Choice.{if_then_else_}
-use Rattle.bdf.specs.Predict.{scaleOf}
+use Rattle.rules.specs.Predict.{scaleOf}
 use Rattle.bdf.proofs.predict.scale_of.Statement.{statement}
 use Rattle.bdf.proofs.predict.scale_of.Tie as tie
 

@@ -5,8 +5,7 @@ use Rattle.bdf.proofs.reply.ask_derivative.Tie as tie
 
 returns : tie.Need-returns
 returns c =
-    let at-tell = c .before .before .before in
-    rw (c .turn .ensures, at-tell .tell .ensures)
+    λ pivot. rw (c .says .ensures pivot, c .before .before .before .tell .ensures)
 
 pub ask-derivative-spec : {M : Type 1} → statement M
 ask-derivative-spec =

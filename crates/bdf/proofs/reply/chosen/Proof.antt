@@ -1,47 +1,35 @@
 -- `reply::chosen`: by whether the order changed; either way the state is ready with the new one. Assumes nothing.
 use borrow.Author.Needs.{needs}
+use mathlib.Core.List.{[]}
 use borrow.Author.Tests.{eq-eqb, ne-eqb}
 use Rattle.loops.specs.Choice.{if_then_else_}
-use Rattle.bdf.specs.ReadyLaws.{room-kept}
-use Rattle.bdf.specs.Reply.{chosen}
-use Rattle.bdf.specs.ReplyLaws.{ordered-ready}
+use Rattle.rules.specs.ReadyLaws.{room-kept}
+use Rattle.rules.specs.Reply.{chosen}
+use Rattle.rules.specs.ReplyLaws.{ordered-ready}
+use Rattle.bdf.proofs.CoreLaws.{again-prepared, again-rest, spoken-prepared, spoken-rest}
 use Rattle.bdf.proofs.reply.chosen.Statement.{statement}
 use Rattle.bdf.proofs.reply.chosen.Tie as tie
-
-main-loop-requires : tie.Need-main-loop-requires
-main-loop-requires c κs =
-    let at-rescale-d = c .before .before .before .before .before .before .before .before .before .before .before .before in
-    let at-start = at-rescale-d .before .before .before .before in
-    ordered-ready _ _ (at-start .pre .0) (at-start .pre .1) (at-start .pre .2) (at-rescale-d .rescale-d .kept .0)
 
 returns : tie.Need-returns
 unfolding chosen if_then_else_
 returns c =
-    let at-main-loop = c .before .before .before .before in
-    let at-test = at-main-loop .before .before .before in
-    let at-rescale-d = at-test .before .before .before .before .before .before .before .before .before .before in
-    rw (← at-rescale-d .rescale-d .ensures, eq-eqb _ _ (at-test .if1 .taken)) (at-main-loop .main-loop .ensures)
+    (again-prepared _ _ _ (c .again .ensures []) (ordered-ready _ _ (c .before .before .before .before .before .before .before .before .before .before .before .before .before .before .before .pre .0) (c .before .before .before .before .before .before .before .before .before .before .before .before .before .before .before .pre .1) (c .before .before .before .before .before .before .before .before .before .before .before .before .before .before .before .pre .2) (c .before .before .before .before .before .before .before .before .before .before .before .rescale-d .kept .0)), λ pivot. rw (← c .before .before .before .before .before .before .before .before .before .before .before .rescale-d .ensures, eq-eqb _ _ (c .before .if1 .taken)) (again-rest _ _ _ (c .again .ensures pivot)))
 
 ask-jacobian-requires : tie.Need-ask-jacobian-requires
 ask-jacobian-requires c κs =
-    let at-rescale-d = c .before .before .before .before .before .before .before .before .before .before .before .before in
-    let at-start = at-rescale-d .before .before .before .before in
-    (room-kept (at-start .pre .0 .room) (at-rescale-d .rescale-d .kept .0), at-start .pre .0 .asks)
+    (room-kept (c .before .before .before .before .before .before .before .before .before .before .before .before .before .before .before .before .pre .0 .room) (c .before .before .before .before .before .before .before .before .before .before .before .before .rescale-d .kept .0), c .before .before .before .before .before .before .before .before .before .before .before .before .before .before .before .before .pre .0 .asks)
 
 returns-2 : tie.Need-returns-2
 unfolding chosen if_then_else_
 returns-2 c =
-    let at-test = c .before .before .before .before .before in
-    let at-rescale-d = at-test .before .before .before .before .before .before .before .before .before .before in
-    rw (← at-rescale-d .rescale-d .ensures, ne-eqb _ _ (at-test .if1 .left)) (c .before .before .ask-jacobian .ensures)
+    (spoken-prepared _ _ _ (c .before .before .ask-jacobian .ensures []), λ pivot. rw (← c .before .before .before .before .before .before .before .before .before .before .before .before .before .before .before .rescale-d .ensures, ne-eqb _ _ (c .before .before .before .before .before .if1 .left)) (spoken-rest _ _ _ (c .before .before .ask-jacobian .ensures pivot)))
 
 pub chosen-spec : {M : Type 1} → statement M
 chosen-spec =
     tie.close
     (tie.spec
     (λ c κs. search needs)
-    main-loop-requires
-    (λ c. search needs)
+    (λ c κs. search needs)
     (λ c. search needs)
     returns
     ask-jacobian-requires

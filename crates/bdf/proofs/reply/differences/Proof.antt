@@ -1,6 +1,6 @@
 -- `reply::differences`: its callees one after the other. Assumes nothing.
 use borrow.Author.Needs.{needs}
-use Rattle.bdf.specs.Reply.{differences}
+use Rattle.rules.specs.Reply.{differences}
 use Rattle.bdf.proofs.reply.differences.Statement.{statement}
 use Rattle.bdf.proofs.reply.differences.Tie as tie
 

@@ -1,23 +1,20 @@
 -- `reply::first_jacobian`: its callees one after the other. Assumes nothing.
 use borrow.Author.Needs.{needs}
-use Rattle.bdf.specs.Reply.{firstJacobian}
-use Rattle.bdf.specs.ReplyLaws.{stored-ready}
+use mathlib.Core.List.{[]}
+use Rattle.rules.specs.Reply.{firstJacobian}
+use Rattle.rules.specs.ReplyLaws.{stored-ready}
 use Rattle.bdf.proofs.reply.first_jacobian.Statement.{statement}
 use Rattle.bdf.proofs.reply.first_jacobian.Tie as tie
 
 first-step-requires : tie.Need-first-step-requires
 first-step-requires c κs =
-    let at-jacobian = c .before .before .before .before in
-    let at-start = at-jacobian .before .before .before .before .before in
-    let ready = stored-ready (at-start .pre .0) _ (at-jacobian .jacobian .ensures) (at-jacobian .jacobian .kept .0) in
+    let ready = stored-ready (c .before .before .before .before .before .before .before .before .before .pre .0) _ (c .before .before .before .before .jacobian .ensures []) (c .before .before .before .before .jacobian .kept .0) in
     (ready .room, ready .asks)
 
 returns : tie.Need-returns
 unfolding firstJacobian
 returns c =
-    let at-first-step = c .before .before .before .before in
-    let at-jacobian = at-first-step .before .before .before .before .before in
-    rw (← at-jacobian .jacobian .ensures) (at-first-step .first-step .ensures)
+    λ pivot. rw (← c .before .before .before .before .before .before .before .before .before .jacobian .ensures pivot) (c .before .before .before .before .first-step .ensures pivot)
 
 pub first-jacobian-spec : {M : Type 1} → statement M
 first-jacobian-spec =

@@ -1,16 +1,13 @@
 -- `reply::hinit_asks`: its callees one after the other. Assumes nothing.
 use borrow.Author.Needs.{needs}
-use Rattle.bdf.specs.Reply.{hinitAsks}
+use Rattle.rules.specs.Reply.{hinitAsks}
 use Rattle.bdf.proofs.reply.hinit_asks.Statement.{statement}
 use Rattle.bdf.proofs.reply.hinit_asks.Tie as tie
 
 returns : tie.Need-returns
 unfolding hinitAsks
 returns c =
-    let at-tell = c .before .before .before .before in
-    let at-euler = at-tell .before .before .before .before .before in
-    let at-guess = at-euler .before .before in
-    rw (c .turn .ensures, at-tell .tell .ensures, at-euler .euler .ensures, at-guess .guess .ensures)
+    λ pivot. rw (c .says .ensures pivot, c .before .before .before .before .tell .ensures, c .before .before .before .before .before .before .before .before .before .euler .ensures, c .before .before .before .before .before .before .before .before .before .before .before .guess .ensures)
 
 pub hinit-asks-spec : {M : Type 1} → statement M
 hinit-asks-spec =

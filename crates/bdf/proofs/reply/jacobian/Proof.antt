@@ -1,14 +1,13 @@
 -- `reply::jacobian`: the values are stored, and counted. Assumes nothing.
 use borrow.Author.Needs.{needs}
-use Rattle.bdf.specs.Reply.{jacobianStored}
+use Rattle.rules.specs.Reply.{jacobianStored}
 use Rattle.bdf.proofs.reply.jacobian.Statement.{statement}
 use Rattle.bdf.proofs.reply.jacobian.Tie as tie
 
 returns : tie.Need-returns
 unfolding jacobianStored
 returns c =
-    let at-load = c .before .before .before .before in
-    rw (at-load .load .ensures)
+    λ pivot. rw (c .before .before .before .before .load .ensures)
 
 pub jacobian-spec : {M : Type 1} → statement M
 jacobian-spec =

@@ -5,7 +5,8 @@ use Rattle.bdf.proofs.reply.outdated.Statement.{statement}
 use Rattle.bdf.proofs.reply.outdated.Tie as tie
 
 returns : tie.Need-returns
-returns c = refl
+returns c =
+    λ pivot. refl
 
 pub outdated-spec : {M : Type 1} → statement M
 outdated-spec =

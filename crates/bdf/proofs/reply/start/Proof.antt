@@ -1,17 +1,13 @@
 -- `reply::start`: its callees one after the other. Assumes nothing.
 use borrow.Author.Needs.{needs}
-use Rattle.bdf.specs.Reply.{started}
+use Rattle.rules.specs.Reply.{started}
 use Rattle.bdf.proofs.reply.start.Statement.{statement}
 use Rattle.bdf.proofs.reply.start.Tie as tie
 
 returns : tie.Need-returns
 unfolding started
 returns c =
-    let at-tell = c .before .before .before .before .before .before in
-    let at-differences = at-tell .before .before .before .before .before in
-    let at-min = at-differences .before .before in
-    let at-max = at-min .before in
-    rw (c .turn .ensures, at-tell .tell .ensures, at-differences .differences .ensures, at-min .min .ensures, at-max .max .ensures)
+    λ pivot. rw (c .says .ensures pivot, c .before .before .before .before .before .before .tell .ensures, c .before .before .before .before .before .before .before .before .before .before .before .differences .ensures, c .before .before .before .before .before .before .before .before .before .before .before .before .before .min .ensures, c .before .before .before .before .before .before .before .before .before .before .before .before .before .before .max .ensures)
 
 pub start-spec : {M : Type 1} → statement M
 start-spec =

@@ -5,7 +5,7 @@ use native.Mathlib.Omega.{arith}
 use lib.ListN.{length, length-set}
 use Rattle.loops.specs.Loop.{Turned, turn-none, turn-more, turn-all}
 use Rattle.loops.specs.Choice.{when-true, when-false}
-use Rattle.bdf.specs.Rescale.{addScaled, scaledTurn}
+use Rattle.rules.specs.Rescale.{addScaled, scaledTurn}
 use Rattle.bdf.proofs.rescale.add_scaled.Statement.{statement}
 use Rattle.bdf.proofs.rescale.add_scaled.Tie as tie
 

@@ -1,6 +1,6 @@
 -- `rescale::compute_r` is r over m. Assumes nothing.
 use borrow.Author.Needs.{needs}
-use Rattle.bdf.specs.Rescale.{computeR}
+use Rattle.rules.specs.Rescale.{computeR}
 use Rattle.bdf.proofs.rescale.compute_r.Statement.{statement}
 use Rattle.bdf.proofs.rescale.compute_r.Tie as tie
 

@@ -7,7 +7,7 @@ use Rattle.loops.specs.Loop.{Turned, turn-none, turn-more, turn-all}
 use mathlib.Core.List.{List}
 use lib.Ieee.{Float}
 use Rattle.loops.specs.Cell.{at}
-use Rattle.bdf.specs.Rescale.{copied}
+use Rattle.rules.specs.Rescale.{copied}
 use Rattle.bdf.proofs.rescale.copy_rows.Statement.{statement}
 use Rattle.bdf.proofs.rescale.copy_rows.Tie as tie
 

@@ -6,8 +6,8 @@ use lib.ListN.{length, set, length-set}
 use lib.Ieee.{Float}
 use mathlib.Core.List.{List}
 use Rattle.loops.specs.Loop.{Turned, turn-none, turn-more, turn-all}
-use Rattle.bdf.specs.Arithmetic.{one}
-use Rattle.bdf.specs.Rescale.{firstRow}
+use Rattle.loops.specs.Arithmetic.{one}
+use Rattle.rules.specs.Rescale.{firstRow}
 use Rattle.bdf.proofs.rescale.first_row.Statement.{statement}
 use Rattle.bdf.proofs.rescale.first_row.Tie as tie
 

@@ -5,7 +5,7 @@ use native.Mathlib.Omega.{arith}
 use Rattle.loops.specs.Loop.{Turned, turn-none, turn-more, turn-all}
 use lib.Dec.{le→leb}
 use lib.Ieee.{inFloat}
-use Rattle.bdf.specs.Rescale.{mRow, mTurn}
+use Rattle.rules.specs.Rescale.{mRow, mTurn}
 use Rattle.bdf.proofs.rescale.m_row.Statement.{statement}
 use Rattle.bdf.proofs.rescale.m_row.Tie as tie
 

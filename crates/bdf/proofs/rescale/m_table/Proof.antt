@@ -2,7 +2,7 @@
 use Prim.Native.Nat.{_-_}
 use native.Mathlib.Omega.{arith}
 use Rattle.loops.specs.Loop.{Turned, turn-none, turn-more, turn-all}
-use Rattle.bdf.specs.Rescale.{mTable, mRow}
+use Rattle.rules.specs.Rescale.{mTable, mRow}
 use Rattle.bdf.proofs.rescale.m_table.Statement.{statement}
 use Rattle.bdf.proofs.rescale.m_table.Tie as tie
 

@@ -4,8 +4,8 @@ use Prim.Native.Nat.{_-_, _+_, _*_, _≤_}
 use native.Mathlib.Omega.{arith}
 use lib.ListN.{length}
 use Rattle.loops.specs.Loop.{Turned, turn-none, turn-more, turn-all}
-use Rattle.bdf.specs.RowLaws.{row-within}
-use Rattle.bdf.specs.Rescale.{newRow, newRowTurn}
+use Rattle.loops.specs.RowLaws.{row-within}
+use Rattle.rules.specs.Rescale.{newRow, newRowTurn}
 use Rattle.bdf.proofs.rescale.new_row.Statement.{statement}
 use Rattle.bdf.proofs.rescale.new_row.Tie as tie
 

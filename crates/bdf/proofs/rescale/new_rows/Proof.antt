@@ -4,9 +4,9 @@ use Prim.Native.Nat.{_-_, _+_, _*_, _≤_}
 use native.Mathlib.Omega.{arith}
 use lib.ListN.{length}
 use Rattle.loops.specs.Loop.{Turned, turn-none, turn-more, turn-all}
-use Rattle.bdf.specs.Limits.{maxN}
-use Rattle.bdf.specs.RowLaws.{row-within}
-use Rattle.bdf.specs.Rescale.{newRows, newRow}
+use Rattle.matrix.specs.Size.{maxN}
+use Rattle.loops.specs.RowLaws.{row-within}
+use Rattle.rules.specs.Rescale.{newRows, newRow}
 use Rattle.bdf.proofs.rescale.new_rows.Statement.{statement}
 use Rattle.bdf.proofs.rescale.new_rows.Tie as tie
 

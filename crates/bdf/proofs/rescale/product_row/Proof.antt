@@ -4,7 +4,7 @@ use Prim.Native.Nat.{_-_}
 use native.Mathlib.Omega.{arith}
 use lib.ListN.{length}
 use Rattle.loops.specs.Loop.{Turned, turn-none, turn-more, turn-all}
-use Rattle.bdf.specs.Rescale.{productRow, productTurn}
+use Rattle.rules.specs.Rescale.{productRow, productTurn}
 use Rattle.bdf.proofs.rescale.product_row.Statement.{statement}
 use Rattle.bdf.proofs.rescale.product_row.Tie as tie
 

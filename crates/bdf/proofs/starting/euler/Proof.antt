@@ -4,8 +4,8 @@ use Prim.Native.Nat.{_-_}
 use native.Mathlib.Omega.{arith}
 use lib.ListN.{length}
 use Rattle.loops.specs.Loop.{Turned, turn-none, turn-more, turn-all}
-use Rattle.bdf.specs.ReadyLaws.{room-kept}
-use Rattle.bdf.specs.Starting.{eulerTurn, euler}
+use Rattle.rules.specs.ReadyLaws.{room-kept}
+use Rattle.rules.specs.Starting.{eulerTurn, euler}
 use Rattle.bdf.proofs.starting.euler.Statement.{statement}
 use Rattle.bdf.proofs.starting.euler.Tie as tie
 

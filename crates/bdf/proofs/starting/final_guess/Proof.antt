@@ -1,6 +1,6 @@
 -- `starting::final_guess`: its definition's steps in order. Assumes nothing.
 use borrow.Author.Needs.{needs}
-use Rattle.bdf.specs.Starting.{finalGuess}
+use Rattle.rules.specs.Starting.{finalGuess}
 use Rattle.bdf.proofs.starting.final_guess.Statement.{statement}
 use Rattle.bdf.proofs.starting.final_guess.Tie as tie
 

@@ -1,6 +1,6 @@
 -- `starting::guess`: the first guess of the two sums. Assumes nothing.
 use borrow.Author.Needs.{needs}
-use Rattle.bdf.specs.Starting.{guess}
+use Rattle.rules.specs.Starting.{guess}
 use Rattle.bdf.proofs.starting.guess.Statement.{statement}
 use Rattle.bdf.proofs.starting.guess.Tie as tie
 

@@ -1,7 +1,7 @@
 -- `starting::h1`: the test of its definition, both ways. Assumes nothing.
 use borrow.Author.Needs.{needs}
 use Rattle.loops.specs.Choice.{if_then_else_}
-use Rattle.bdf.specs.Starting.{h1}
+use Rattle.rules.specs.Starting.{h1}
 use Rattle.bdf.proofs.starting.h1.Statement.{statement}
 use Rattle.bdf.proofs.starting.h1.Tie as tie
 

@@ -1,6 +1,6 @@
 -- `starting::hinit`: the final guess of its parts. Assumes nothing.
 use borrow.Author.Needs.{needs}
-use Rattle.bdf.specs.Starting.{hinit}
+use Rattle.rules.specs.Starting.{hinit}
 use Rattle.bdf.proofs.starting.hinit.Statement.{statement}
 use Rattle.bdf.proofs.starting.hinit.Tie as tie
 

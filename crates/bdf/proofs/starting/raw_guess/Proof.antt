@@ -2,7 +2,7 @@
 use mathlib.Core.Logic.{⊎-elim}
 use borrow.Author.Needs.{needs}
 use Rattle.loops.specs.Choice.{if_then_else_}
-use Rattle.bdf.specs.Starting.{rawGuess}
+use Rattle.rules.specs.Starting.{rawGuess}
 use Rattle.bdf.proofs.starting.raw_guess.Statement.{statement}
 use Rattle.bdf.proofs.starting.raw_guess.Tie as tie
 

@@ -2,7 +2,7 @@
 use Prim.Native.Nat.{_-_}
 use native.Mathlib.Omega.{arith}
 use Rattle.loops.specs.Loop.{Turned, turn-none, turn-more, turn-all}
-use Rattle.bdf.specs.Starting.{secondTurn, second}
+use Rattle.rules.specs.Starting.{secondTurn, second}
 use Rattle.bdf.proofs.starting.second.Statement.{statement}
 use Rattle.bdf.proofs.starting.second.Tie as tie
 

@@ -1,7 +1,7 @@
 -- `starting::within_span`: the test of its definition, both ways. Assumes nothing.
 use borrow.Author.Needs.{needs}
 use Rattle.loops.specs.Choice.{if_then_else_}
-use Rattle.bdf.specs.Starting.{withinSpan}
+use Rattle.rules.specs.Starting.{withinSpan}
 use Rattle.bdf.proofs.starting.within_span.Statement.{statement}
 use Rattle.bdf.proofs.starting.within_span.Tie as tie
 

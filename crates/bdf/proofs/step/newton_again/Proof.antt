@@ -1,14 +1,13 @@
 -- `step::newton_again`: the state is told, and the next derivative asked. Assumes nothing.
 use borrow.Author.Needs.{needs}
-use Rattle.bdf.specs.Step.{newtonAgain}
+use Rattle.rules.specs.Step.{newtonAgain}
 use Rattle.bdf.proofs.step.newton_again.Statement.{statement}
 use Rattle.bdf.proofs.step.newton_again.Tie as tie
 
 returns : tie.Need-returns
 unfolding newtonAgain
 returns c =
-    let at-tell = c .before .before .before .before .before .before .before in
-    rw (c .says .ensures, c .before .turn .ensures, at-tell .tell .ensures)
+    λ pivot. rw (c .says .ensures pivot, c .before .before .before .before .before .before .tell .ensures)
 
 pub newton-again-spec : {M : Type 1} → statement M
 newton-again-spec =
@@ -16,7 +15,6 @@ newton-again-spec =
     (tie.spec
     (λ c κs. search needs)
     (λ c. search needs)
-    (λ c κs. search needs)
     (λ c κs. search needs)
     (λ c. search needs)
     returns)

@@ -3,7 +3,7 @@ use mathlib.Core.Path.{_≡_}
 use native.Mathlib.Omega.{arith}
 use lib.Ieee.{ofBits, ofInt, add, sub, mul, div}
 use Rattle.loops.specs.Loop.{loop, turns}
-use Rattle.bdf.specs.Rescale.{computeR, rTable, rRow, rTurn, mTable, mRow, mTurn, firstRow}
+use Rattle.rules.specs.Rescale.{computeR, rTable, rRow, rTurn, mTable, mRow, mTurn, firstRow}
 use Rattle.bdf.proofs.unit.unit_r.Statement.{statement}
 use Rattle.bdf.proofs.unit.unit_r.Tie as tie
 

@@ -14,7 +14,7 @@ use Rattle.loops.specs.Refusal.{gives, refuses}
 use Rattle.matrix.specs.Size.{sizedOf}
 use Rattle.matrix.specs.Linear.{SolveOutcome, insideOf, solvedOf, lin_solveOf}
 use Rattle.matrix.proofs.Size.{sized-means}
-use Rattle.matrix.proofs.Pivots.{each-inside}
+use Rattle.matrix.specs.PivotLaws.{each-inside}
 use Rattle.matrix.proofs.linear.lin_solve.Statement.{statement}
 use Rattle.matrix.proofs.linear.lin_solve.Tie as tie
 

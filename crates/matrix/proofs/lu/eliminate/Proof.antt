@@ -1,6 +1,6 @@
 -- `lu::eliminate` meets its contract: each turn of the loop is a turn of the definition, since a[(i, k)], which the loop does not
--- write, keeps the value that l has. Assumes nothing.
-use mathlib.Core.Path.{_≡_, _∙_}
+-- write, keeps the value that l has; and the turns that it leaves out are at zeros. Assumes nothing.
+use mathlib.Core.Path.{_≡_, refl, _∙_}
 use mathlib.Core.List.{List}
 use Prim.Native.Nat.{ℕ, _+_, _-_, _*_, _<_}
 use native.Mathlib.Omega.{arith}
@@ -8,9 +8,10 @@ use lib.ListN.{length}
 use lib.Seq.{getD-set-other}
 use lib.Ieee.{Float, nan}
 use Rattle.loops.specs.Cell.{cell, stored}
-use Rattle.loops.specs.Loop.{Turned, turn-none, turn-more, turn-all}
-use Rattle.matrix.specs.Rows.{addedOf, cellTurn}
+use Rattle.loops.specs.Loop.{Turned, turn-none, turn-more}
+use Rattle.matrix.specs.Rows.{addedOf, cellTurn, Zeros}
 use Rattle.matrix.proofs.Writes.{columns-apart}
+use Rattle.matrix.proofs.Zeros.{zeros-stay, all-turned}
 use Rattle.matrix.proofs.lu.eliminate.Statement.{statement}
 use Rattle.matrix.proofs.lu.eliminate.Tie as tie
 
@@ -25,30 +26,62 @@ unfolding cellTurn
 turned n k i j a b e₁ e₂ e₃ e₄ e₅ = e₅ ∙ rw (e₄, e₃, e₂, e₁)
 
 abbrev Inv-loop : tie.InvT-loop
-Inv-loop a₀ n k i l j₀ a j = (length a ≡ n * n) × (cell n a i k ≡ l) × Turned (k + 1) n (cellTurn n k i) a₀ j a
+Inv-loop a₀ n k i l end j₀ a j = (length a ≡ n * n) × (cell n a i k ≡ l) × Turned (k + 1) n (cellTurn n k i) a₀ j a × Zeros n k end a
 
 abbrev μ-loop : tie.MeasureT-loop
-μ-loop a₀ n k i l j₀ a j = n - j
+μ-loop a₀ n k i l end j₀ a j = end - j
+
+add-j : tie.Need-add-j Inv-loop μ-loop
+add-j c =
+    omega arith
 
 loop-holds : tie.Need-loop-holds Inv-loop μ-loop
-loop-holds c = (omega arith, c .before .pre .3, turn-none (omega arith))
+loop-holds c =
+    (omega arith, c .before .pre .3, turn-none (omega arith), c .before .pre .6)
+
+get-requires : tie.Need-get-requires Inv-loop μ-loop
+get-requires c κs =
+    omega arith
+
+get-requires-2 : tie.Need-get-requires-2 Inv-loop μ-loop
+get-requires-2 c κs =
+    omega arith
+
+added-requires : tie.Need-added-requires Inv-loop μ-loop
+added-requires c κs =
+    omega arith
+
+put-requires : tie.Need-put-requires Inv-loop μ-loop
+put-requires c κs =
+    omega arith
+
+add-j-2 : tie.Need-add-j-2 Inv-loop μ-loop
+add-j-2 c =
+    omega arith
+
+loop-less : tie.Need-loop-less Inv-loop μ-loop
+loop-less c =
+    omega arith
 
 loop-again : tie.Need-loop-again Inv-loop μ-loop
 loop-again c =
     let given = c .before .before .before .before .before .before .before .before .before .before .before .before .args in
     let at-loop = c .before .before .before .before .before .before .before .before .before .before .loop in
-    let turn = c .before .before .before .before .before .before .before .before .before .loop-test in
-    let the-get = c .before .before .before .before .before .before .before .get in
-    let the-get2 = c .before .before .before .before .before .get2 in
-    let the-added = c .before .before .before .before .added in (
+    let within : at-loop .j < given .n = omega arith in (
       omega arith,
-      multiplier-stays (given .n) (given .k) (given .i) (at-loop .j) (at-loop .a) _ (the-added .result) (omega arith) (turn .taken) (at-loop .inv .1) (c .before .before .put .ensures),
-      turn-more (at-loop .inv .2) (turn .taken)
-          (turned _ _ _ _ _ _ (at-loop .inv .1) (the-get .ensures) (the-get2 .ensures) (the-added .ensures) (c .before .before .put .ensures)),
+      multiplier-stays (given .n) (given .k) (given .i) (at-loop .j) (at-loop .a) _ (c .before .before .before .before .added .result) (omega arith) within (at-loop .inv .1) (c .before .before .put .ensures),
+      turn-more (at-loop .inv .2) within (turned _ _ _ _ _ _ (at-loop .inv .1) (c .before .before .before .before .before .before .before .get .ensures) (c .before .before .before .before .before .get2 .ensures) (c .before .before .before .before .added .ensures) (c .before .before .put .ensures)),
+      zeros-stay (given .n) (given .k) (given .i) (at-loop .j) (given .end) (at-loop .a) _ (c .before .before .before .before .added .result) (omega arith) within (at-loop .inv .3) (c .before .before .put .ensures),
     )
 
+same-length : tie.Need-same-length Inv-loop μ-loop
+same-length c =
+    omega arith
+
 returns : tie.Need-returns Inv-loop μ-loop
-returns c = turn-all (c .before .loop .inv .2) (c .loop-test .left)
+returns c =
+    let at-loop = c .before .loop in
+    (all-turned _ _ _ _ _ _ _ refl (at-loop .inv .2) (λ m h g. at-loop .inv .3 m (omega arith) g), at-loop .inv .3)
 
 pub eliminate-spec : {M : Type 1} → statement M
 eliminate-spec =
@@ -56,14 +89,14 @@ eliminate-spec =
     (tie.spec
     Inv-loop
     μ-loop
-    (λ c. omega arith)
+    add-j
     loop-holds
-    (λ c κs. omega arith)
-    (λ c κs. omega arith)
-    (λ c κs. omega arith)
-    (λ c κs. omega arith)
-    (λ c. omega arith)
-    (λ c. omega arith)
+    get-requires
+    get-requires-2
+    added-requires
+    put-requires
+    add-j-2
+    loop-less
     loop-again
-    (λ c. omega arith)
+    same-length
     returns)

@@ -11,7 +11,7 @@ use borrow.Author.Tests.{not-true, not-false, eq-eqb, ne-eqb}
 use Rattle.loops.specs.Choice.{when-true, when-false}
 use Rattle.loops.specs.Cell.{at}
 use Rattle.loops.specs.Refusal.{gives, refuses}
-use Rattle.matrix.specs.Binary64.{nought}
+use Rattle.loops.specs.Arithmetic.{+0}
 use Rattle.matrix.specs.Size.{sizedOf}
 use Rattle.matrix.specs.Lu.{LuOutcome, singleOf, stagesOf, lu_decompOf}
 use Rattle.matrix.proofs.Size.{sized-means}
@@ -32,11 +32,11 @@ module _ (a : List Float) (ip : List ℕ) {r : Bool} (e : r ≡ sizedOf (length 
       unfolding lu_decompOf
       alone = when-true _ _ right-size ∙ when-true _ _ (eq-eqb _ _ h)
 
-      single-zero : eq (at a 0) nought ≡ true → _≡_ {A = LuOutcome} (refuses 15, a, ip) (lu_decompOf a ip)
+      single-zero : eq (at a 0) +0 ≡ true → _≡_ {A = LuOutcome} (refuses 15, a, ip) (lu_decompOf a ip)
       unfolding singleOf
       single-zero z = sym (alone ∙ when-true _ _ z)
 
-      single : eq (at a 0) nought ≡ false → _≡_ {A = LuOutcome} (gives tt, a, set ip 0 0) (lu_decompOf a ip)
+      single : eq (at a 0) +0 ≡ false → _≡_ {A = LuOutcome} (gives tt, a, set ip 0 0) (lu_decompOf a ip)
       unfolding singleOf
       single z = sym (alone ∙ when-false _ _ z)
 

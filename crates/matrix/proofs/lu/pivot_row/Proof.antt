@@ -10,7 +10,8 @@ use lib.Ieee.{Float, lt}
 use Rattle.loops.specs.Choice.{when-true, when-false}
 use Rattle.loops.specs.Cell.{cell}
 use Rattle.loops.specs.Loop.{Turned, turn-none, turn-more, turn-all}
-use Rattle.matrix.specs.Magnitude.{absOf, magnitudeOf}
+use Rattle.number.specs.Helpers.{absOf}
+use Rattle.matrix.specs.Magnitude.{magnitudeOf}
 use Rattle.matrix.specs.Lu.{pivotTurn, pivotOf}
 use Rattle.matrix.proofs.Magnitude.{same-order}
 use Rattle.matrix.proofs.lu.pivot_row.Statement.{statement}

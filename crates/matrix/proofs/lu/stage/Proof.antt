@@ -7,7 +7,7 @@ use lib.ListN.{length}
 use lib.Ieee.{Float}
 use Rattle.loops.specs.Cell.{cell}
 use Rattle.loops.specs.Loop.{loop}
-use Rattle.matrix.specs.Binary64.{div, one}
+use Rattle.loops.specs.Arithmetic.{_⊘_, one}
 use Rattle.matrix.specs.Lu.{exchangedOf, stageOf}
 use Rattle.matrix.specs.Rows.{rowTurn, stageByRows}
 use Rattle.matrix.proofs.Rows.{stage-by-rows}
@@ -15,7 +15,7 @@ use Rattle.matrix.proofs.lu.stage.Statement.{statement}
 use Rattle.matrix.proofs.lu.stage.Tie as tie
 
 in-order : (n m k : ℕ) (a b d : List Float) {pivot : Float} → k < n → length a ≡ n * n → pivot ≡ cell n a m k → b ≡ loop k n (exchangedOf n m k) a
-    → d ≡ loop (k + 1) n (rowTurn n k (div one pivot)) b → d ≡ stageOf n m k a
+    → d ≡ loop (k + 1) n (rowTurn n k (one ⊘ pivot)) b → d ≡ stageOf n m k a
 unfolding stageByRows
 in-order n m k a b d h s e₁ e₂ e₃ = e₃ ∙ rw (e₂, e₁) (stage-by-rows n m k h a s)
 

@@ -8,7 +8,7 @@ use mathlib.Core.Bool.{Bool}
 use lib.Ieee.{Float, eq}
 use lib.ListN.{length, length-set}
 use Rattle.loops.specs.Choice.{when-true, when-false}
-use Rattle.matrix.specs.Binary64.{nought}
+use Rattle.loops.specs.Arithmetic.{+0}
 use Rattle.matrix.specs.Lu.{lastOf, stagesOf}
 use Rattle.matrix.proofs.Stages.{no-stage-left, stage-fails, stage-passes}
 use Rattle.matrix.proofs.lu.stages.Statement.{statement}
@@ -16,7 +16,7 @@ use Rattle.matrix.proofs.lu.stages.Tie as tie
 
 -- whether a pivot is zero, as the code asks it
 abbrev test : Float → Bool
-test x = eq x nought
+test x = eq x +0
 
 abbrev Inv-loop : tie.InvT-loop
 Inv-loop a₀ ip₀ n nm1 k₀ a ip k =

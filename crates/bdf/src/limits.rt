@@ -1,2 +1,0 @@
-// The one bound on the number of components.
-pub(crate) const MAX_N: usize = 32;

@@ -1,0 +1,70 @@
+-- What a place of the run waits for, which replies suit it, and how many values they bring.
+use mathlib.Core.Bool.{Bool, true, false}
+use Prim.Native.Nat.{ℕ, _*_}
+use Rattle.rules.specs.Types.{Reply, Values, Continue, Interrupt, Modified, Awaited, FirstDerivative, FirstJacobian, StartDerivative, StartNotice, ModifiedStartDerivative, ModifiedStartJacobian, NewtonDerivative, FailedJacobian, StepNotice, ModifiedStepDerivative, ModifiedStepJacobian, OrderJacobian, Ended}
+use Rattle.rules.specs.declared.stages.Wants.{Wants}
+use Rattle.rules.specs.declared.stages.Wants.the-variants.{Count, Unsuited}
+
+-- ---- two questions about a place
+
+abbrev pub awaitsNewton : Awaited → Bool
+awaitsNewton FirstDerivative = false
+awaitsNewton FirstJacobian = false
+awaitsNewton StartDerivative = false
+awaitsNewton StartNotice = false
+awaitsNewton ModifiedStartDerivative = false
+awaitsNewton ModifiedStartJacobian = false
+awaitsNewton NewtonDerivative = true
+awaitsNewton FailedJacobian = false
+awaitsNewton StepNotice = false
+awaitsNewton ModifiedStepDerivative = false
+awaitsNewton ModifiedStepJacobian = false
+awaitsNewton OrderJacobian = false
+awaitsNewton Ended = false
+
+abbrev pub isEnded : Awaited → Bool
+isEnded FirstDerivative = false
+isEnded FirstJacobian = false
+isEnded StartDerivative = false
+isEnded StartNotice = false
+isEnded ModifiedStartDerivative = false
+isEnded ModifiedStartJacobian = false
+isEnded NewtonDerivative = false
+isEnded FailedJacobian = false
+isEnded StepNotice = false
+isEnded ModifiedStepDerivative = false
+isEnded ModifiedStepJacobian = false
+isEnded OrderJacobian = false
+isEnded Ended = true
+
+-- ---- the reply
+
+-- a question wants values, so many
+abbrev pub valuesWant : ℕ → Reply → Wants
+valuesWant count Values = Count count
+valuesWant count Continue = Unsuited
+valuesWant count Interrupt = Unsuited
+valuesWant count (Modified x) = Unsuited
+
+-- a notice wants a word, and a modification brings the new state
+abbrev pub wordWants : ℕ → Reply → Wants
+wordWants n Values = Unsuited
+wordWants n Continue = Count 0
+wordWants n Interrupt = Count 0
+wordWants n (Modified x) = Count n
+
+-- a derivative is n values, a Jacobian n * n
+abbrev pub wants : ℕ → Awaited → Reply → Wants
+wants n FirstDerivative r = valuesWant n r
+wants n FirstJacobian r = valuesWant (n * n) r
+wants n StartDerivative r = valuesWant n r
+wants n StartNotice r = wordWants n r
+wants n ModifiedStartDerivative r = valuesWant n r
+wants n ModifiedStartJacobian r = valuesWant (n * n) r
+wants n NewtonDerivative r = valuesWant n r
+wants n FailedJacobian r = valuesWant (n * n) r
+wants n StepNotice r = wordWants n r
+wants n ModifiedStepDerivative r = valuesWant n r
+wants n ModifiedStepJacobian r = valuesWant (n * n) r
+wants n OrderJacobian r = valuesWant (n * n) r
+wants n Ended r = wordWants n r

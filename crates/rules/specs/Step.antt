@@ -1,0 +1,86 @@
+-- What follows a Newton derivative's reply: another iteration, a new Jacobian where Newton gave up, a rejected step, or an
+-- accepted one and its notice.
+use mathlib.Core.List.{List}
+use mathlib.Core.Bool.{Bool}
+use Prim.Native.Nat.{ℕ, _+_, _*_}
+use lib.Ieee as Ieee
+use lib.Ieee.{Float}
+use Rattle.loops.specs.Choice.{if_then_else_}
+use Rattle.loops.specs.Cell.{at}
+use Rattle.number.specs.Helpers.{maxOf}
+use Rattle.number.specs.Roots.{inverseRoot}
+use Rattle.rules.specs.Types.{Progress, Pace, Newton, Derivative, Jacobian, Step, NewtonDerivative, FailedJacobian, StepNotice}
+use Rattle.loops.specs.Arithmetic.{_⊖_, _⊗_, one}
+use Rattle.rules.specs.Literals.{minFactor}
+use Rattle.rules.specs.Tables.{errorConsts}
+use Rattle.rules.specs.Places.{delta, y, yNew, yPredict, cont, row}
+use Rattle.rules.specs.Moves.{loaded}
+use Rattle.rules.specs.State.{with, withPace, withNewton, turn, ode+1, accepted+1, rejected+1, After, after, Left, left}
+use Rattle.rules.specs.Predict.{scaled}
+use Rattle.rules.specs.Newton.{correction, advanced, converged, gaveUp}
+use Rattle.rules.specs.Norm.{rhsNorm}
+use Rattle.rules.specs.Judge.{safetyOf, weighed, acceptedWs}
+use Rattle.rules.specs.Attempt.{rescaledD, told, again, says}
+use Rattle.rules.specs.declared.stages.Tried.{Tried}
+
+-- ---- the judgement of a step
+
+-- a rejection for its error: at least MIN_FACTOR of the step stays, and the factoring is kept
+unfoldable pub errorRejected : Progress → Float → Float → List Float → Left Tried
+errorRejected p safety norm ws =
+    let factor = maxOf (safety ⊗ inverseRoot (p .order + 1) norm) minFactor in
+    let pace : Pace = record { h = p .pace .h ⊗ factor; «equal_steps» = 0; «lu_is_current» = p .pace .«lu_is_current» } in
+    left (again (rejected+1 (withPace p pace))) (rescaledD (p .n) (p .order) factor ws)
+
+-- x = x_new, one equal step more; safety and the error's norm stay for the choice of order
+abbrev pub acceptedFrom : Progress → Float → Float → Progress
+acceptedFrom p safety norm =
+    with p (p .evals) (accepted+1 p .steps) (p .order) (p .aim .«x_new»)
+    (record { h = p .pace .h; «equal_steps» = p .pace .«equal_steps» + 1; «lu_is_current» = p .pace .«lu_is_current» })
+    (p .aim) (p .«current_c»)
+    (record { iters = p .newton .iters; prev = p .newton .prev; safety = safety; «error_norm» = norm })
+    (p .pivot)
+
+-- the notice: the reported old x is x - h_signed, the interpolant's start is x_start; y, then the coefficients
+unfoldable pub stepAccepted : Progress → Float → Float → List Float → List Float → After Tried
+stepAccepted p safety norm ws q =
+    let n = p .n in
+    let w = acceptedWs n (p .order) ws in
+    let a = p .aim in
+    after (says (turn (Step (a .«x_new» ⊖ a .«h_signed») (a .«x_new») (a .«x_start») (a .«h_signed»)) StepNotice (acceptedFrom p safety norm)))
+    w (loaded w (row n cont) n (7 * n) (told n y w q))
+
+-- rhs = error_const[order] * delta, over the scale of y_new. (The Rust tests scale for 0 once more here, where it is not 0.)
+unfoldable pub errorWs : ℕ → ℕ → List Float → List Float
+errorWs n order ws = weighed n (at errorConsts order) delta (scaled n yNew ws)
+
+unfoldable pub judged : Progress → List Float → List Float → After Tried
+judged p ws q =
+    let w = errorWs (p .n) (p .order) ws in
+    let norm = rhsNorm (p .n) w in
+    let safety = safetyOf (p .limits .newton) (p .newton .iters) in
+    let e = errorRejected p safety norm w in
+    if Ieee.lt one norm then after (e .is) (e .ws) q else stepAccepted p safety norm w q
+
+-- ---- the iteration
+
+-- Newton did not converge: the Jacobian is asked at x_new and the prediction
+unfoldable pub newtonFailed : Progress → List Float → List Float → After Tried
+newtonFailed p ws q = after (says (turn (Jacobian (p .aim .«x_new»)) FailedJacobian p)) ws (told (p .n) yPredict ws q)
+
+unfoldable pub newtonAgain : Progress → Float → List Float → List Float → After Tried
+newtonAgain p norm ws q =
+    let g : Newton = record { iters = p .newton .iters + 1; prev = norm; safety = p .newton .safety; «error_norm» = p .newton .«error_norm» } in
+    after (says (turn (Derivative (p .aim .«x_new»)) NewtonDerivative (withNewton p g))) ws (told (p .n) yNew ws q)
+
+-- by the tests on the correction's norm; y_new and delta are advanced before any of them
+unfoldable pub iterated : Progress → Float → List Float → List Float → After Tried
+iterated p norm ws q =
+    if converged (p .span .«newton_tol») (p .newton .iters) (p .newton .prev) norm then judged p ws q
+    else if gaveUp (p .span .«newton_tol») (p .limits .newton) (p .newton .iters) (p .newton .prev) norm then newtonFailed p ws q
+    else newtonAgain p norm ws q
+
+unfoldable pub newtonReplied : Progress → List Float → List Float → List Float → After Tried
+newtonReplied p values ws q =
+    let w = correction (p .n) (p .aim .c) (p .pivot) values ws in
+    iterated (ode+1 p) (rhsNorm (p .n) w) (advanced (p .n) w) q
