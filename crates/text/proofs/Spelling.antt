@@ -5,7 +5,7 @@ use mathlib.Core.List.{List, [], _∷_, _++_}
 use Prim.Native.Nat.{ℕ, zero, suc, _+_, _-_, _/_, _%_, _≤_, _<_}
 use native.Mathlib.Nat.{add-zero, add-suc}
 use native.Mathlib.Omega.{arith}
-use lib.ListN.{length, take, drop, set, length-append, length-set, take-append-drop}
+use lib.ListN.{length, take, drop, set, length-set, take-append-drop}
 use lib.Seq.{append-snoc, drop-cons, getD-set-same, take-set-le, drop-set-lt}
 use Rattle.text.specs.Digits.{digit, spelled}
 
@@ -13,13 +13,6 @@ use Rattle.text.specs.Digits.{digit, spelled}
 unfoldable pub spelledInto : ℕ → ℕ → ℕ → ℕ → List ℕ → List ℕ
 spelledInto base at zero n out = out
 spelledInto base at (suc k) n out = spelledInto base at k (n / base) (set out (at + k) (digit (n % base)))
-
-pub length-spelled : (base k n : ℕ) → length (spelled base k n) ≡ k
-unfolding spelled
-length-spelled base zero n = refl
-length-spelled base (suc k) n =
-    let h : length (spelled base k (n / base)) ≡ k = length-spelled base k (n / base) in
-    simp length-append (omega arith)
 
 -- the digit that is written first, at the end, and what it leaves to be written
 pub spelled-into-more : (base at left rest : ℕ) (out : List ℕ) → 0 < left →

@@ -5,6 +5,7 @@ mod pattern;
 mod word;
 
 pub use page::Place;
+pub use page::places;
 pub use page::put_byte;
 pub use page::put_count;
 pub use page::put_double;

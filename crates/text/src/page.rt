@@ -99,8 +99,8 @@ fn digit(d: u64) -> u8
     55 + d as u8
 }
 
-// How many decimal digits n has: one for 0.
-fn places(n: u64) -> usize
+// How many decimal digits n has: one for 0. Who puts a whole line asks, to know that it has room.
+pub fn places(n: u64) -> usize
     ensures { λ r. ⌜ r ≡ placesOf n ⌝ }
 {
     let mut k = 1;
