@@ -1,0 +1,16 @@
+-- `edges::drive::need` meets its contract: the workspace of 32 components is the longest. Assumes nothing.
+use native.Mathlib.Omega.{arith}
+use borrow.Author.Needs.{needs}
+use Rattle.edges.proofs.Square.{needed}
+use Rattle.edges.proofs.drive.need.Statement.{statement}
+use Rattle.edges.proofs.drive.need.Tie as tie
+
+mul-result-2 : tie.Need-mul-result-2
+mul-result-2 c = omega (arith, needed _ (c .pre))
+
+returns : tie.Need-returns
+returns c = needed _ (c .pre)
+
+pub need-spec : {M : Type 1} → statement M
+need-spec =
+    tie.close (tie.spec (λ c. search needs) (λ c. search needs) mul-result-2 returns)

@@ -1,0 +1,25 @@
+-- `edges::lengths::going_within` is safe: there are as many components as n says, at most 32. Assumes nothing.
+use native.Mathlib.Omega.{arith}
+use borrow.Author.Needs.{needs}
+use Rattle.edges.proofs.Front.{front-of-repeat}
+use Rattle.edges.proofs.lengths.going_within.Statement.{statement}
+use Rattle.edges.proofs.lengths.going_within.Tie as tie
+
+slice-aggregate-begin : tie.Need-slice-aggregate-begin
+slice-aggregate-begin c = front-of-repeat _ 32 _ (omega arith)
+
+pub going-within-spec : {M : Type 1} → statement M
+going-within-spec =
+    tie.close
+    (tie.spec
+    (λ c κs. search needs)
+    (λ c. search needs)
+    slice-aggregate-begin
+    (λ c. search needs)
+    (λ c. search needs)
+    (λ c κs. search needs)
+    (λ c κs. search needs)
+    (λ c. search needs)
+    (λ c. search needs)
+    (λ c. search needs)
+    (λ c. search needs))
