@@ -1,7 +1,9 @@
-//! Cases whose answers document 01 and the transcript's paper print. They stand at the head of the stored sample.
+//! Cases whose answers document 01, the transcript's paper and docs/DIFFERENCES.md print. They stand at the head of the
+//! stored sample.
 use crate::config::Config;
 use crate::make::record;
 use crate::systems::System;
+use crate::ways::ways;
 use crate::words::{word, words_of};
 use ivp::methods::Tolerance;
 
@@ -14,6 +16,7 @@ pub fn known() -> Vec<Known> {
     let mut all = leaves();
     all.extend(interpolations());
     all.extend(runs());
+    all.extend(ways());
     all
 }
 
@@ -65,6 +68,13 @@ fn still(max_steps: u64, xend: f64, first_step: Option<f64>, max_step: Option<f6
     record(&config, System::Linear { a: vec![0.0] })
 }
 
+/// The first job under a Newton limit.
+fn still_under(newton_maxiter: u64) -> Vec<u64> {
+    let mut config = Config::plain(100_000, newton_maxiter, 0.0, 1.0, vec![1.0]);
+    config.first_step = Some(0.5);
+    record(&config, System::Linear { a: vec![0.0] })
+}
+
 /// y' = -y under a Newton limit.
 fn decay(newton_maxiter: u64) -> Vec<u64> {
     let mut config = Config::plain(3, newton_maxiter, 0.0, 1.0, vec![1.0]);
@@ -89,6 +99,8 @@ fn runs() -> Vec<Known> {
         Known { words: many(32), text: "+E 0 3FE0000000000000 2 2 0 3 1 1\n" },
         Known { words: many(33), text: "R 1\n" },
         Known { words: many(0), text: "E 0 0000000000000000 0 0 0 0 0 0\n" },
+        // with a limit of 0, read as 1, a correction of norm 0 converges
+        Known { words: still_under(0), text: FIRST_JOB },
         // y' = -y never has a correction of norm 0: with a limit of 0, read as 1, every attempt fails
         Known { words: decay(0), text: "+E 2 3FA0000000000000 3 0 3 4 4 3\n" },
         Known { words: decay(1), text: "+E 2 3FA0000000000000 3 0 3 4 4 3\n" },
@@ -115,7 +127,7 @@ S 0000000000000000 3FE0000000000000 0000000000000000 3FE0000000000000 3FF0000000
 E 2 3FE0000000000000 1 1 0 2 1 1
 ";
 
-/// Whether an answer is the one printed; after `+` only its last line is.
+/// Whether an answer is the one printed; after `+` only its last lines are.
 pub fn as_printed(known: &Known, answer: &str) -> bool {
     match known.text.strip_prefix('+') {
         None => answer == known.text,

@@ -4,13 +4,15 @@
 //!   oracle answer < CASES > ANSWERS              answers the cases of a stream
 //!   oracle sample CASES ANSWERS KIND ..          writes a small sample that visits every branch (the marked oracle)
 //!   oracle unfit SEED PREFIX                     writes streams that must end in `X`
-//!   oracle check                                 answers what document 01 prints, and compares
+//!   oracle known CASES ANSWERS                   writes the cases whose answers the papers print, and says how many
+//!   oracle check                                 answers what the papers print, and compares
 //!   oracle job < JOB                             prints what the job program must print for a packed job
-//!   oracle job-files COUNT SEED PREFIX           writes packed jobs at random
+//!   oracle try-jobs PROGRAM KIND COUNT SEED ROOM puts packed jobs, known, ordinary or damaged, to a program and compares
 //!   oracle jobs COUNT SEED                       prints ordinary jobs' lines
 //!   oracle powers COUNT SEED                     counts where powf is the exact inverse root
 //!   oracle agreement JOBS JOBS                   counts where two such prints agree
 mod config;
+mod damaged;
 mod jobs;
 mod known;
 mod leaves;
@@ -20,7 +22,9 @@ mod random;
 mod run;
 mod sample;
 mod systems;
+mod tried;
 mod unfit;
+mod ways;
 mod words;
 
 use random::Random;
@@ -56,17 +60,22 @@ fn main() {
                 fs::write(format!("{prefix}-{}.cases", name.replace(' ', "-")), bytes).unwrap();
             }
         }
+        ["known", cases, answers_to] => {
+            let known = known::known();
+            println!("{}", known.len());
+            let words: Vec<u64> = known.into_iter().flat_map(|case| case.words).collect();
+            fs::write(cases, to_bytes(&words)).unwrap();
+            fs::write(answers_to, answers(Stream::of_words(words))).unwrap();
+        }
         ["check"] => check(),
         ["job"] => {
             let mut bytes = Vec::new();
             stdin().read_to_end(&mut bytes).unwrap();
             print!("{}", packed::answer_job(&bytes));
         }
-        ["job-files", count, seed, prefix] => {
-            let mut random = Random::new(number(seed));
-            for i in 0..number(count) {
-                fs::write(format!("{prefix}{i}"), packed::random_job(&mut random)).unwrap();
-            }
+        ["try-jobs", program, kind, count, seed, room] => {
+            let same = tried::try_jobs(program, kind, number(count), number(seed), room);
+            exit(if same { 0 } else { 1 })
         }
         ["jobs", count, seed] => print!("{}", jobs::jobs(number(count), number(seed))),
         ["powers", count, seed] => print!("{}", jobs::powers(number(count), number(seed))),
@@ -74,23 +83,35 @@ fn main() {
             print!("{}", jobs::agreement(&fs::read_to_string(one).unwrap(), &fs::read_to_string(other).unwrap()))
         }
         _ => {
-            eprintln!("oracle cases | answer | sample | unfit | check | job | job-files | jobs | powers | agreement: see src/main.rs");
+            eprintln!("oracle cases | answer | sample | unfit | known | check | job | try-jobs | jobs | powers | agreement: see src/main.rs");
             exit(2)
         }
     }
 }
 
-/// The cases that document 01 prints come out as it prints them.
+/// The cases that the papers print come out as they print them.
 fn check() {
     let known = known::known();
+    let mut wrong = 0;
     for case in &known {
         let answer = answers(Stream::of_words(case.words.clone()));
         if !known::as_printed(case, &answer) {
             eprintln!("oracle: expected\n{}but the Rust answers\n{answer}", case.text);
-            exit(1);
+            wrong += 1;
         }
     }
-    println!("oracle: {} known cases as printed", known.len());
+    let jobs = packed::known_jobs();
+    for (name, job, text) in &jobs {
+        let answer = packed::answer_job(job);
+        if answer != *text {
+            eprintln!("oracle: job '{name}': expected\n{text}but the Rust answers\n{answer}");
+            wrong += 1;
+        }
+    }
+    println!("oracle: {} known cases and jobs as printed, {wrong} not", known.len() + jobs.len() - wrong);
+    if wrong > 0 {
+        exit(1)
+    }
 }
 
 fn number(text: &str) -> u64 {

@@ -43,45 +43,96 @@ fn job_line(line: &str, n: usize) -> Option<String> {
     Some(kept.join(" ") + "\n")
 }
 
-/// A job file: mostly one that runs, at times one that is refused or damaged.
-pub fn random_job(random: &mut Random) -> Vec<u8> {
-    let n = match random.below(20) {
-        0 => 0,
-        1 => random.from_to(33, 63),
-        2 => random.from_to(9, 32),
-        _ => random.from_to(1, 5),
-    };
-    let edges = random.once_in(5);
+/// The fields of a job file.
+pub struct Job {
+    pub n: u64,
+    pub max_steps: u64,
+    pub newton_maxiter: u64,
+    pub automatic: bool,
+    pub padding: u64,
+    /// x0, xend, first_step, the tolerances, y0, A by rows
+    pub doubles: Vec<f64>,
+}
+
+impl Job {
+    pub fn bytes(&self) -> Vec<u8> {
+        let fields = self.n << 34 | self.max_steps << 14 | self.newton_maxiter << 7 | (self.automatic as u64) << 6 | self.padding;
+        let mut bytes = fields.to_be_bytes()[3..].to_vec();
+        bytes.extend(self.doubles.iter().flat_map(|x| x.to_bits().to_be_bytes()));
+        bytes
+    }
+}
+
+/// A job that runs: a linear system that mostly decays, at ordinary tolerances.
+pub fn ordinary_job(random: &mut Random, n: usize) -> Job {
     let automatic = random.once_in(2);
-    let max_steps = if random.once_in(12) { random.pick(&[0, 1_000_000, 1_000_001, 0xF_FFFF]) } else { random.from_to(1, 200) as u64 };
-    let newton_maxiter = if random.once_in(8) { random.pick(&[0, 1, 64, 65, 127]) } else { 4 };
-    // under a limit of a million a run with numbers at the edges, or with one Newton pass, creeps on and on
-    let creeps = edges || newton_maxiter < 2;
-    let max_steps = if creeps && max_steps <= 1_000_000 { max_steps.min(40) } else { max_steps };
-    let padding = if random.once_in(40) { 1 << random.below(6) } else { 0 };
-    let fields = (n as u64) << 34 | max_steps << 14 | newton_maxiter << 7 | (automatic as u64) << 6 | padding;
-    let mut bytes = fields.to_be_bytes()[3..].to_vec();
-    let first_step = match random.below(30) {
-        0 => random.edge(),
-        _ if automatic => 0.0,
-        1 => 0.0,
-        _ => random.decade(-5.0, 0.0),
-    };
+    let first_step = if automatic { 0.0 } else { random.decade(-5.0, 0.0) };
     let mut doubles = vec![0.0, random.decade(-2.0, 1.0), first_step, random.decade(-8.0, -2.0), random.decade(-10.0, -3.0)];
     doubles.extend((0..n).map(|_| random.signed()));
     let decay = random.decade(-1.0, 3.0);
     doubles.extend((0..n * n).map(|i| if i / n == i % n { -decay * random.unit() } else { random.signed() }));
-    for (i, x) in doubles.iter_mut().enumerate() {
+    Job { n: n as u64, max_steps: random.from_to(1, 200) as u64, newton_maxiter: 4, automatic, padding: 0, doubles }
+}
+
+/// A job file: mostly one that runs, at times one with numbers at the edges or at the limits.
+pub fn random_job(random: &mut Random) -> Vec<u8> {
+    let n = match random.below(20) {
+        0 => 0,
+        1 | 2 => random.from_to(6, 32),
+        _ => random.from_to(1, 5),
+    };
+    let mut job = ordinary_job(random, n);
+    let edges = random.once_in(5);
+    if random.once_in(12) {
+        job.max_steps = random.pick(&[0, 1_000_000, 1_000_001, 0xF_FFFF]);
+    }
+    if random.once_in(8) {
+        job.newton_maxiter = random.pick(&[0, 1, 64, 65, 127]);
+    }
+    // under a limit of a million a run with numbers at the edges, or with one Newton pass, creeps on and on
+    let creeps = edges || job.newton_maxiter < 2;
+    if creeps && job.max_steps <= 1_000_000 {
+        job.max_steps = job.max_steps.min(40);
+    }
+    if !job.automatic && random.once_in(15) {
+        job.doubles[2] = random.edge();
+    }
+    for (i, x) in job.doubles.iter_mut().enumerate() {
         if edges && i != 2 && random.once_in(6) {
             *x = random.edge();
         }
     }
-    bytes.extend(doubles.iter().flat_map(|x| x.to_bits().to_be_bytes()));
-    match random.below(40) {
-        0 => bytes.truncate(random.below(bytes.len())),
-        1 => bytes.push(0),
-        2 => bytes.truncate(random.below(6)),
-        _ => {}
-    }
-    bytes
+    job.bytes()
 }
+
+/// Jobs that document 01 prints or judges by its words, and what is printed for them.
+pub fn known_jobs() -> Vec<(&'static str, Vec<u8>, &'static str)> {
+    let first = |max_steps| Job { n: 1, max_steps, newton_maxiter: 4, automatic: false, padding: 0, doubles: vec![0.0, 1.0, 0.5, 1e-3, 1e-6, 1.0, 0.0] };
+    let none = |padding, first_step| Job { n: 0, max_steps: 0, newton_maxiter: 127, automatic: true, padding, doubles: vec![0.0, 1.0, first_step, -1.0, -1.0] };
+    let automatic = |first_step| {
+        let mut job = first(1);
+        job.automatic = true;
+        job.doubles[2] = first_step;
+        job
+    };
+    vec![
+        ("the first job", first(100_000).bytes(), FIRST_JOB),
+        ("one step", first(1).bytes(), "I 0000000000000000 3FF0000000000000\nS 3FE0000000000000 3FF0000000000000\nE 2 3FE0000000000000 1 1 0 2 1 1\n"),
+        ("automatic, 0", automatic(0.0).bytes(), "I 0000000000000000 3FF0000000000000\nS 3EB0C6F7A0B5ED8D 3FF0000000000000\nE 2 3EB0C6F7A0B5ED8D 1 1 0 2 1 1\n"),
+        ("automatic, -0", automatic(-0.0).bytes(), "R 17\n"),
+        ("n 0 ends, whatever else is set", none(0, 0.0).bytes(), "E 0 0000000000000000 0 0 0 0 0 0\n"),
+        ("n 0 with padding", none(1, 0.0).bytes(), "R 17\n"),
+        ("n 0 with a first step", none(0, -0.0).bytes(), "R 17\n"),
+        ("n 0 and a byte more", [none(0, 0.0).bytes(), vec![0]].concat(), "R 17\n"),
+        ("n 33 of five bytes", vec![33 << 2, 0, 0, 0, 0], "R 1\n"),
+        ("n 33 of four bytes", vec![33 << 2, 0, 0, 0], "R 17\n"),
+        ("empty", Vec::new(), "R 17\n"),
+    ]
+}
+
+const FIRST_JOB: &str = "\
+I 0000000000000000 3FF0000000000000
+S 3FE0000000000000 3FF0000000000000
+S 3FF0000000000000 3FF0000000000000
+E 0 3FE0000000000000 2 2 0 3 1 1
+";

@@ -1,0 +1,160 @@
+#!/usr/bin/env python3
+"""Tests of the examples' tools: a text packs to the bytes that document 01 says and comes back; what is wrong is told by its
+line; and no output that is cut off, refused or thinned out looks finished."""
+import random
+import sys
+import unittest
+from pathlib import Path
+from xml.dom import minidom
+
+sys.dont_write_bytecode = True
+
+import outcome
+import packed
+import picture
+
+HERE = Path(__file__).parent
+
+# Document 01's first job and what it prints.
+FIRST = "n 1\nmax_steps 100000\nnewton_maxiter 4\nx0 0\nxend 1\nfirst_step 0.5\nrtol 1e-3\natol 1e-6\ny0 1\nA\n  0\n"
+FIRST_BYTES = "0461A80200 0000000000000000 3FF0000000000000 3FE0000000000000 3F50624DD2F1A9FC 3EB0C6F7A0B5ED8D 3FF0000000000000 0000000000000000"
+FIRST_LINES = """I 0000000000000000 3FF0000000000000
+S 3FE0000000000000 3FF0000000000000
+S 3FF0000000000000 3FF0000000000000
+E 0 3FE0000000000000 2 2 0 3 1 1
+"""
+
+
+def first():
+    return packed.of_text(FIRST, "first")
+
+
+def read(text, exit_status=0):
+    return outcome.read(first(), text.splitlines(keepends=True), exit_status)
+
+
+class Packing(unittest.TestCase):
+    def test_first_job(self):
+        self.assertEqual(first().packed(), bytes.fromhex(FIRST_BYTES))
+        automatic = packed.of_text(FIRST.replace("first_step 0.5", "first_step automatic"), "first").packed()
+        self.assertEqual(automatic[:5].hex(), "0461a80240")
+        self.assertEqual(automatic[21:29], bytes(8))
+
+    def test_examples_come_back(self):
+        for path in HERE.glob("*.txt"):
+            data = packed.of_file(str(path)).packed()
+            shown = packed.of_bytes(data, path.name).text()
+            self.assertEqual(packed.of_text(shown, path.name).packed(), data, path.name)
+
+    def test_any_bits_come_back(self):
+        numbers = random.Random(1)
+        for n in (0, 1, 2, 5, 32):
+            for _ in range(20):
+                count = 5 + n + n * n
+                doubles = [numbers.choice([numbers.getrandbits(64), 1 << 63, 1, 0x7FF0 << 48, 0xFFF0 << 48, (0x7FF0 << 48) + 1]) for _ in range(count)]
+                doubles[2:5] = [numbers.getrandbits(62) + 1, numbers.getrandbits(63), numbers.getrandbits(63)]
+                head = n << 34 | numbers.randint(1, 1_000_000) << 14 | numbers.randint(0, 64) << 7
+                data = head.to_bytes(5, "big") + b"".join(bits.to_bytes(8, "big") for bits in doubles)
+                self.assertEqual(packed.of_text(packed.of_bytes(data, "job").text(), "text").packed(), data)
+
+    def test_unfit_files(self):
+        good = first().packed()
+        automatic = packed.of_text(FIRST.replace("first_step 0.5", "first_step automatic"), "first").packed()
+        minus_zero = automatic[:21] + bytes([0x80]) + automatic[22:]
+        unfit = [b"", good[:4], good[:-1], good + b"\0", good[:4] + b"\1" + good[5:], minus_zero]
+        above = [bytes([33 << 2]) + good[1:], bytes([63 << 2, 0, 0, 0, 1])]
+        for data, number in [(data, 17) for data in unfit] + [(data, 1) for data in above]:
+            with self.assertRaises(packed.Wrong) as told:
+                packed.of_bytes(data, "job")
+            self.assertIn(f"(refused by number {number})", str(told.exception))
+
+
+class Telling(unittest.TestCase):
+    """What is wrong with a text is told with its line."""
+
+    def told(self, old, new):
+        self.assertIn(old, FIRST)
+        with self.assertRaises(packed.Wrong) as told:
+            packed.of_text(FIRST.replace(old, new), "t")
+        return str(told.exception)
+
+    def test_by_line(self):
+        wrong = [
+            ("x0 0", "x0 0,5", "t, line 4: 0,5: write the decimal point as a point"),
+            ("x0 0", "x0 \u22121", "t, line 4: \u22121 is no number"),
+            ("x0 0", "x0 0x3FF", "t, line 4: 0x3FF: after 0x come the 16"),
+            ("x0 0", "x0 1e999", "t, line 4: 1e999 is too large"),
+            ("x0 0", "x0 1e-999", "t, line 4: 1e-999 is too small"),
+            ("x0 0", "x0 0 1", "t, line 4: x0 wants one value, here are 2"),
+            ("x0 0", "start 0", "t, line 4: start: a line begins with one of"),
+            ("x0 0", "xend 0", "t, line 5: xend already stands in line 4"),
+            ("x0 0", "# x0 0", "t: there is no line that begins with x0"),
+            ("n 1", "n 33", "t, line 1: 33 is no whole number from 0 to 32"),
+            ("n 1", "n 2", "t, line 9: y0 has 1 numbers, but n is 2"),
+            ("  0\n", "  0\n  1\n", "t, line 10: A has 2 rows, but n is 1"),
+            ("  0\n", "  0 1\n", "t, line 11: row 1 of A has 2 numbers, but n is 1"),
+            ("  0\n", "  zero\n", "t, line 11: zero is no number"),
+            ("max_steps 100000", "max_steps 0", "t, line 2: max_steps is 0"),
+            ("max_steps 100000", "max_steps 1000001", "t, line 2: 1000001 is no whole number from 0 to 1000000"),
+            ("newton_maxiter 4", "newton_maxiter 65", "t, line 3: 65 is no whole number from 0 to 64"),
+            ("rtol 1e-3", "rtol -1e-3", "t, line 7: rtol is below 0"),
+            ("first_step 0.5", "first_step -0.0", "t, line 6: first_step is 0; write automatic"),
+            ("y0 1", "y0 1\nnames a b", "t, line 10: 2 names for 1 components"),
+        ]
+        for old, new, words in wrong:
+            self.assertIn(words, self.told(old, new))
+
+
+class Finished(unittest.TestCase):
+    def drawn(self, came):
+        svg = picture.draw(came)
+        minidom.parseString(svg)
+        self.assertEqual(">UNFINISHED</text>" in svg, not came.finished)
+        self.assertEqual(came.status().startswith("Success: the end was reached"), came.finished)
+
+    def test_whole(self):
+        self.assertTrue(read(FIRST_LINES).finished)
+        self.drawn(read(FIRST_LINES))
+
+    def test_cut_off_anywhere(self):
+        # a last counter of two digits: with one of them cut off it is still a counter
+        for lines in (FIRST_LINES, FIRST_LINES[:-2] + "12\n"):
+            self.assertTrue(read(lines).finished)
+            for length in range(len(lines)):
+                came = read(lines[:length])
+                self.assertFalse(came.finished, lines[:length])
+                self.drawn(came)
+
+    def test_a_line_missing_or_twice(self):
+        lines = FIRST_LINES.splitlines(keepends=True)
+        for i in range(len(lines)):
+            self.assertFalse(read("".join(lines[:i] + lines[i + 1 :])).finished)
+            self.assertFalse(read("".join(lines[: i + 1] + lines[i:])).finished)
+
+    def test_other_ends(self):
+        for status in "123":
+            came = read(FIRST_LINES.replace("E 0", f"E {status}"))
+            self.assertFalse(came.finished)
+            self.assertIn("UNFINISHED", came.status())
+            self.drawn(came)
+        for lines in ("R 17\n", "R 8\n", FIRST_LINES.replace("E 0", "E 4"), FIRST_LINES.replace("E 0", "E 00"), FIRST_LINES.replace(" ", "  ")):
+            self.assertFalse(read(lines).finished)
+            self.drawn(read(lines))
+
+    def test_counters_that_do_not_add_up(self):
+        self.assertFalse(read(FIRST_LINES.replace(" 2 2 0 ", " 3 2 0 ")).finished)
+
+    def test_success_short_of_the_end(self):
+        self.assertFalse(read(FIRST_LINES.replace("S 3FF0000000000000", "S 3FEFFFFFFFFFFFFF")).finished)
+
+    def test_the_program_fails_at_last(self):
+        self.assertFalse(read(FIRST_LINES, exit_status=1).finished)
+
+    def test_numbers_that_cannot_be_drawn(self):
+        for bits in ("7FF8000000000000", "7FF0000000000000", "7FEFFFFFFFFFFFFF", "0000000000000001", "FFEFFFFFFFFFFFFF"):
+            self.drawn(read(FIRST_LINES.replace("S 3FE0000000000000 3FF0000000000000", f"S 3FE0000000000000 {bits}")))
+            self.drawn(read(FIRST_LINES.replace("3FF0000000000000\nS", f"{bits}\nS")))
+
+
+if __name__ == "__main__":
+    unittest.main()
