@@ -8,3 +8,4 @@ pub mod Lines
 pub mod Fields
 pub mod FieldLaws
 pub mod Examples
+pub mod Unique

@@ -4,4 +4,5 @@ pub mod DigitLaws
 pub mod Page
 pub mod PageLaws
 pub mod Words
+pub mod Unique
 pub mod Examples
