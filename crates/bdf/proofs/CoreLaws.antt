@@ -6,7 +6,8 @@ use Prim.Native.Nat.{ℕ}
 use native.Mathlib.Omega.{arith}
 use lib.ListN.{length}
 use lib.Ieee.{Float}
-use Rattle.loops.specs.Choice.{if_then_else_, when-true, when-false}
+use Rattle.loops.specs.Choice.{if_then_else_}
+use Rattle.loops.specs.laws.ChoiceLaws.{when-true, when-false}
 use types.Run.{OneOf}
 use denote.Enum.Declared.{tagOf}
 use Rattle.rules.specs.declared.types.Progress.{Progress}
@@ -15,13 +16,13 @@ use Rattle.rules.specs.declared.types.Awaited.{Awaited}
 use Rattle.rules.specs.declared.types.Turn.{Turn}
 use Rattle.rules.specs.declared.stages.Tried.{Tried}
 use Rattle.rules.specs.State.{After, after}
-use Rattle.rules.specs.Ready.{Sane, Ready, Awake, Answered, Handed}
+use Rattle.rules.specs.laws.Ready.{Sane, Ready, Awake, Answered, Handed}
 use Rattle.rules.specs.Attempt.{says, again, mainLoop}
 use Rattle.rules.specs.Step.{newtonReplied}
 use Rattle.rules.specs.Replies.{wants, valuesWant}
 use Rattle.rules.specs.Reply.{stepped, newtonTurn, restarted, replied}
-use Rattle.rules.specs.ReplyLaws.{replied-ready}
-use Rattle.rules.specs.MainLoopLaws.{rest}
+use Rattle.rules.specs.laws.ReplyLaws.{replied-ready}
+use Rattle.rules.specs.laws.MainLoopLaws.{rest}
 use Rattle.bdf.specs.declared.core.Core.{Core}
 use Rattle.bdf.specs.declared.core.Outcome.{Outcome}
 use Rattle.bdf.specs.declared.core.Next.{Next}

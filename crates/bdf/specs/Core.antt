@@ -10,10 +10,10 @@ use Rattle.rules.specs.declared.types.Turn.{Turn}
 use Rattle.rules.specs.declared.types.Awaited.{Awaited}
 use Rattle.rules.specs.declared.types.Awaited.the-variants.{FirstDerivative, FirstJacobian, StartDerivative, StartNotice, ModifiedStartDerivative, ModifiedStartJacobian, NewtonDerivative, FailedJacobian, StepNotice, ModifiedStepDerivative, ModifiedStepJacobian, OrderJacobian, Ended}
 use Rattle.rules.specs.State.{After, after}
-use Rattle.rules.specs.Ready.{Ready}
+use Rattle.rules.specs.laws.Ready.{Ready}
 use Rattle.rules.specs.Attempt.{says}
 use Rattle.rules.specs.Reply.{stepped}
-use Rattle.rules.specs.MainLoopLaws.{rest}
+use Rattle.rules.specs.laws.MainLoopLaws.{rest}
 use Rattle.rules.specs.declared.stages.Factors.{Factors}
 use Rattle.rules.specs.declared.stages.Tried.{Tried}
 use Rattle.bdf.specs.declared.core.Core.{Core}

@@ -9,7 +9,7 @@ use rules::types::Pace;
 ghost use mathlib.Core.Path.{_≡_};
 ghost use mathlib.Core.List.{List};
 ghost use Prim.Native.Nat.{ℕ, _+_, _*_, _≤_, _<_};
-ghost use Rattle.rules.specs.Ready.{Room};
+ghost use Rattle.rules.specs.laws.Ready.{Room};
 ghost use Rattle.rules.specs.State.{left, changed as changedOf};
 ghost use Rattle.bdf.specs.Core.{whole};
 ghost use Rattle.rules.specs.Attempt.{rescaledD, toHmax, toHmin, aimAt, cutAtEnd, aimed};

@@ -30,7 +30,7 @@ ghost use mathlib.Core.List.{List};
 ghost use Prim.Native.Nat.{ℕ, _+_, _*_, _≤_, _<_};
 ghost use lib.ListN.{length};
 ghost use Rattle.matrix.specs.Size.{maxN};
-ghost use Rattle.rules.specs.Ready.{Room, Sane, Ready};
+ghost use Rattle.rules.specs.laws.Ready.{Room, Sane, Ready};
 ghost use Rattle.rules.specs.State.{left, after};
 ghost use Rattle.bdf.specs.Core.{whole, bare, tried};
 ghost use Rattle.rules.specs.Attempt.{told, halved, newtonStart, mustFactor, refactored, attemptAt, guarded, fitted, fittedAttempt, attempt as attemptOf};

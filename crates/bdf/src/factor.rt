@@ -6,7 +6,7 @@ use matrix::Factoring;
 ghost use mathlib.Core.Path.{_≡_};
 ghost use Prim.Native.Nat.{_≤_, _<_};
 ghost use lib.ListN.{length};
-ghost use Rattle.rules.specs.Ready.{Room};
+ghost use Rattle.rules.specs.laws.Ready.{Room};
 ghost use Rattle.rules.specs.State.{left};
 ghost use Rattle.bdf.specs.Core.{factors};
 ghost use Rattle.rules.specs.Factor.{matrixCells, diagonal as diagonalOf, matrix as matrixOf, factored};

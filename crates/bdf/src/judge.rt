@@ -10,7 +10,7 @@ use crate::places::put;
 use crate::places::row;
 ghost use mathlib.Core.Path.{_≡_};
 ghost use Prim.Native.Nat.{_+_, _*_, _≤_, _<_};
-ghost use Rattle.rules.specs.Ready.{Room};
+ghost use Rattle.rules.specs.laws.Ready.{Room};
 ghost use lib.ListN.{set};
 ghost use Rattle.rules.specs.Judge.{coefficient as place, safetyOf, weighed, newest as newestOf, addNext, summed, coeff, coeffs, prepared, acceptedWs};
 

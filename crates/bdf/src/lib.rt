@@ -1,11 +1,11 @@
 // The BDF solver: variable order 1 to 5, fixed-leading-coefficient steps, simplified Newton, by questions and replies.
 mod aim;
 mod attempt;
-pub mod begin;
+mod beginning;
 mod checks;
 mod core;
 mod factor;
-pub mod go_on;
+mod going_on;
 mod judge;
 mod moves;
 mod newton;
@@ -21,5 +21,7 @@ mod step;
 mod tables;
 mod unit;
 
+pub use beginning::begin;
+pub use going_on::go_on;
 pub use rules::settings;
 pub use rules::types;

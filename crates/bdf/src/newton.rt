@@ -10,7 +10,7 @@ use crate::places::row;
 ghost use mathlib.Core.Path.{_≡_};
 ghost use Prim.Native.Nat.{_+_, _*_, _≤_, _<_};
 ghost use lib.ListN.{length};
-ghost use Rattle.rules.specs.Ready.{Room};
+ghost use Rattle.rules.specs.laws.Ready.{Room};
 ghost use Rattle.rules.specs.Newton.{residual as residualOf, solved, correction, advancedAt, advanced, power as powerOf, tooSlow, settled as settledOf, converged as convergedOf, gaveUp};
 
 fn residual(ws: &mut [f64], n: usize, c: f64)

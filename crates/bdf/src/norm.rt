@@ -5,7 +5,7 @@ use crate::places::get;
 use crate::predict::EPSILON;
 ghost use mathlib.Core.Path.{_≡_};
 ghost use Prim.Native.Nat.{_≤_, _<_};
-ghost use Rattle.rules.specs.Ready.{Room};
+ghost use Rattle.rules.specs.laws.Ready.{Room};
 ghost use Rattle.rules.specs.Norm.{squareOf, sumOfSquares, rhsNorm};
 
 fn square(v: f64, s: f64) -> f64
@@ -33,5 +33,5 @@ pub(crate) fn rhs_norm(ws: &[f64], n: usize) -> f64
     requires { ⌜ Room n (now ws) ⌝ }
     ensures { λ r. ⌜ r ≡ rhsNorm n (now (ws .entry)) ⌝ }
 {
-    number::sqrt(sum_of_squares(ws, n) / n as f64)
+    roots::sqrt(sum_of_squares(ws, n) / n as f64)
 }

@@ -2,15 +2,15 @@
 use crate::judge::weigh;
 use crate::norm::rhs_norm;
 use crate::tables::error_const;
-use number::Root;
+use roots::Root;
 use rules::stages::Choice;
 ghost use mathlib.Core.Path.{_≡_};
 ghost use Prim.Native.Nat.{_+_, _*_, _≤_, _<_};
 ghost use lib.Ieee.{inf};
 ghost use mathlib.Core.Bool.{false};
-ghost use Rattle.rules.specs.Ready.{Room};
+ghost use Rattle.rules.specs.laws.Ready.{Room};
 ghost use Rattle.rules.specs.State.{left};
-ghost use Rattle.number.specs.Roots.{inverseRoot};
+ghost use Rattle.roots.specs.Roots.{inverseRoot};
 ghost use Rattle.rules.specs.Order.{errorAt, errM, errP, bestOf, newOrder, stepFactor, choiceOf};
 
 pub(crate) fn infinity() -> f64
@@ -54,7 +54,7 @@ pub(crate) fn factor(k: usize, x: f64) -> f64
     requires { ⌜ (1 ≤ k) × (k ≤ 7) ⌝ }
     ensures { λ r. ⌜ r ≡ inverseRoot k x ⌝ }
 {
-    let r = number::inverse_root(k, x);
+    let r = roots::inverse_root(k, x);
     match r {
         Root::Value(v) => v,
         Root::KOutside => 0.0,

@@ -3,7 +3,7 @@
 ghost use mathlib.Core.Path.{_≡_};
 ghost use Prim.Native.Nat.{_+_, _*_, _≤_, _<_};
 ghost use Rattle.matrix.specs.Size.{maxN};
-ghost use Rattle.rules.specs.Ready.{Room};
+ghost use Rattle.rules.specs.laws.Ready.{Room};
 ghost use Rattle.rules.specs.Places.{row as rowOf, get as getOf, put as putOf, jac as jacOf, lu as luOf, putLu};
 
 // D[k] is row k, for k from 0 to 7; the Rust's scratch_change, rows 8 to 13, is a local array here.

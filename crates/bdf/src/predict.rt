@@ -10,7 +10,7 @@ use crate::tables::alpha;
 use crate::tables::gamma;
 ghost use mathlib.Core.Path.{_≡_};
 ghost use Prim.Native.Nat.{_≤_, _<_};
-ghost use Rattle.rules.specs.Ready.{Room};
+ghost use Rattle.rules.specs.laws.Ready.{Room};
 ghost use Rattle.rules.specs.Predict.{predicted as predictedOf, predict as predictOf, scaleOf, scaleAt, scaled, psiSum, psied};
 
 pub(crate) const EPSILON: f64 = 2.220446049250313e-16;

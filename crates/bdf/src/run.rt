@@ -10,7 +10,7 @@ ghost use mathlib.Core.Path.{_≡_};
 ghost use Prim.Native.Nat.{_≤_};
 ghost use lib.ListN.{length};
 ghost use Rattle.matrix.specs.Size.{maxN};
-ghost use Rattle.rules.specs.Ready.{Ready, Awake, Answered};
+ghost use Rattle.rules.specs.laws.Ready.{Ready, Awake, Answered};
 ghost use Rattle.rules.specs.State.{after};
 ghost use Rattle.rules.specs.Reply.{replied as repliedOf};
 ghost use Rattle.bdf.specs.Core.{whole, bare, turnOf, leftOver, Prepared};

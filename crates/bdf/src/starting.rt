@@ -9,7 +9,7 @@ use crate::places::get;
 use crate::places::put;
 ghost use mathlib.Core.Path.{_≡_};
 ghost use Prim.Native.Nat.{_+_, _*_, _≤_, _<_};
-ghost use Rattle.rules.specs.Ready.{Room};
+ghost use Rattle.rules.specs.laws.Ready.{Room};
 ghost use Rattle.rules.specs.Starting.{sk as skOf, squares as squaresOf, rawGuess, firstGuess, guess as guessOf, euler as eulerOf, second as secondOf, h1 as h1Of, finalGuess, hinit as hinitOf, withinSpan};
 
 fn sk(ws: &[f64], n: usize, i: usize) -> f64
@@ -40,7 +40,7 @@ fn raw_guess(dnf: f64, dny: f64) -> f64
     if dnf <= 1e-10 || dny <= 1e-10 {
         1.0e-6
     } else {
-        number::sqrt(dny / dnf) * 0.01
+        roots::sqrt(dny / dnf) * 0.01
     }
 }
 
@@ -101,8 +101,8 @@ fn final_guess(sum: f64, dnf: f64, h: f64, hmax: f64, posneg: f64) -> f64
     ensures { λ r. ⌜ r ≡ finalGuess sum dnf h hmax posneg ⌝ }
 {
     let size = number::abs(h);
-    let der2 = number::sqrt(sum) / size;
-    let der12 = number::max(number::abs(der2), number::sqrt(dnf));
+    let der2 = roots::sqrt(sum) / size;
+    let der12 = number::max(number::abs(der2), roots::sqrt(dnf));
     let least = number::min(
         number::min(number::min(size, 100.0 * size), h1(der12, size)),
         number::abs(hmax),

@@ -68,7 +68,7 @@ fn within(tally: &mut [u64], c: Case, forgeries: usize, ws: &mut [f64], q: &mut 
     let y = [1.0f64; 32];
     let n = c.n;
     let tolerance = Tolerance::Scalar(c.tolerance);
-    let first = begin::begin(
+    let first = begin(
         BDF::new(),
         0.0,
         &y[..n],
@@ -138,7 +138,7 @@ fn next(
     let run = swept(tally, said, forgeries, ws, q);
     fill(values, answer, c, q);
     let reply = suited(answer, modifies(c, left));
-    go_on::go_on(run, reply, values, ws, q)
+    go_on(run, reply, values, ws, q)
 }
 
 // The start's notice, the fourth answer, is among those that may be answered by a modification.
@@ -292,7 +292,7 @@ struct Outcome {
 fn refused(run: Run, reply: Reply, ws: &mut [f64], q: &mut [f64]) -> Outcome {
     let room = mixed(ws);
     let questions = mixed(q);
-    let turn = go_on::go_on(run, reply, &[], ws, q);
+    let turn = go_on(run, reply, &[], ws, q);
     let changed = differs(room, mixed(ws)) + differs(questions, mixed(q));
     let answer = turn.answer;
     let back = turn.run;

@@ -118,7 +118,7 @@ fn begun(l: Slices) -> Turn
     let absolute = l.absolute;
     let room = l.room;
     let questions = l.questions;
-    begin::begin(
+    begin(
         BDF::new(),
         0.0,
         &y[..n],
@@ -145,7 +145,7 @@ fn going_within(out: &mut [u8], place: Place, n: usize, ws: &mut [f64], q: &mut 
     requires { ⌜ n ≤ 32 ⌝ }
 {
     let y = [1.0f64; 32];
-    let turn = begin::begin(
+    let turn = begin(
         BDF::new(),
         0.0,
         &y[..n],
@@ -290,5 +290,5 @@ fn went_on(run: Run, reply: Reply, given: usize, ws: &mut [f64], q: &mut [f64]) 
     requires { ⌜ given ≤ 1024 ⌝ }
 {
     let values = [0.0f64; 1024];
-    go_on::go_on(run, reply, &values[..given], ws, q)
+    go_on(run, reply, &values[..given], ws, q)
 }

@@ -13,8 +13,8 @@ use Rattle.loops.specs.Cell.{at}
 use Rattle.loops.specs.Refusal.{Outcome, gives, refuses}
 use Rattle.loops.specs.Arithmetic.{_⊕_, _⊖_, _⊗_, _⊘_, float, +0, one}
 use Rattle.matrix.specs.Size.{maxN}
-use Rattle.interpolation.specs.declared.interpolate.Interpolation.{Interpolation}
-use Rattle.interpolation.specs.declared.interpolate.Interpolation.the-variants.{Interpolated, TooMany, WrongLength}
+use Rattle.interpolation.specs.declared.polynomial.Interpolation.{Interpolation}
+use Rattle.interpolation.specs.declared.polynomial.Interpolation.the-variants.{Interpolated, TooMany, WrongLength}
 
 -- ---- the order, from the first component's mark: `round().clamp(1.0, 5.0) as usize`, which is 0 for a NaN
 

@@ -1,2 +1,5 @@
 // The polynomial of an accepted step, which a caller evaluates between two notices.
-pub mod interpolate;
+mod polynomial;
+
+pub use polynomial::Interpolation;
+pub use polynomial::interpolate;

@@ -11,7 +11,7 @@ use Rattle.text.specs.declared.page.Place.the-variants.{At, Full}
 use Rattle.text.specs.Page.{Page, puts}
 use Rattle.job.specs.Lines.{line}
 use Rattle.job.specs.Fields.{putsLine, roomFor}
-use Rattle.job.specs.FieldLaws.{line-with-room, line-without-room}
+use Rattle.job.specs.laws.FieldLaws.{line-with-room, line-without-room}
 
 pub has-room : (k at len : ℕ) {place : Place} → place ≡ At at → at + k ≤ len → true ≡ roomFor k place len
 has-room k at len p h = rw p (sym (le-leb (at + k) len h))

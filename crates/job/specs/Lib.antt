@@ -2,10 +2,9 @@
 pub mod Types
 pub mod Packed
 pub mod Reading
-pub mod ReadingLaws
 pub mod Right
 pub mod Lines
+-- ---- a line as the code puts it
 pub mod Fields
-pub mod FieldLaws
-pub mod Examples
-pub mod Unique
+pub mod laws
+pub mod promises

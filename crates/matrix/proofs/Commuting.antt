@@ -8,7 +8,7 @@ use native.Mathlib.Omega.{arith}
 use lib.Dec.{eqb}
 use lib.Seq.{getD-set-other}
 use lib.Ieee.{Float, nan, neg}
-use Rattle.loops.specs.Order.{Commute}
+use Rattle.loops.specs.laws.Order.{Commute}
 use Rattle.loops.specs.Cell.{cell}
 use Rattle.loops.specs.Arithmetic.{_⊗_}
 use Rattle.matrix.specs.Lu.{exchangedOf, scaleTurn}

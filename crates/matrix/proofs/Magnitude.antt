@@ -7,7 +7,8 @@ use native.Mathlib.Omega.{arith}
 use borrow.Author.Tests.{ltb-false, le-ltb}
 use lib.IntN.{ℤ}
 use lib.Ieee.{Float, nan, inf, fin, lt, neg, below, up, down, ofBits, ofFields, odd}
-use Rattle.loops.specs.Choice.{if_then_else_, either}
+use Rattle.loops.specs.Choice.{if_then_else_}
+use Rattle.loops.specs.laws.ChoiceLaws.{either}
 use Rattle.loops.specs.Arithmetic.{+0}
 use Rattle.number.specs.Helpers.{absOf}
 use Rattle.matrix.specs.Magnitude.{magnitudeOf}

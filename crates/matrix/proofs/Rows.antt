@@ -10,14 +10,15 @@ use lib.Dec.{eqb}
 use lib.ListN.{length, length-set}
 use lib.Seq.{getD-set-same, getD-set-other, set-getD}
 use lib.Ieee.{Float, nan, ne}
-use Rattle.loops.specs.Choice.{either, when-true, when-false}
+use Rattle.loops.specs.laws.ChoiceLaws.{either, when-true, when-false}
 use Rattle.loops.specs.Loop.{loop}
-use Rattle.loops.specs.Order.{loop-first, loop-idle, loop-same, loop-keeps, loop-pass, loop-split, loop-swap}
-use Rattle.loops.specs.Cell.{cell, stored, inside}
+use Rattle.loops.specs.laws.Order.{loop-first, loop-idle, loop-same, loop-keeps, loop-pass, loop-split, loop-swap}
+use Rattle.loops.specs.Cell.{cell, stored}
+use Rattle.loops.specs.laws.RowLaws.{inside}
 use Rattle.loops.specs.Arithmetic.{_⊘_, +0, one}
 use Rattle.matrix.specs.Lu.{exchangedOf, scaleTurn, eliminateTurn, columnTurn, stageOf}
 use Rattle.matrix.specs.Rows.{addedOf, cellTurn, rowTurn, stageByRows}
-use Rattle.matrix.specs.LengthLaws.{exchanged-long}
+use Rattle.matrix.specs.laws.LengthLaws.{exchanged-long}
 use Rattle.matrix.proofs.Writes.{rows-apart}
 use Rattle.matrix.proofs.Commuting.{cells-commute, scale-passes-cell, exchange-passes-cell, exchange-passes-scale}
 

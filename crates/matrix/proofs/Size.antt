@@ -4,7 +4,7 @@ use mathlib.Core.Bool.{true}
 use Prim.Native.Nat.{ℕ, _*_, _≤_, _<_}
 use lib.Dec.{leb, ltb}
 use borrow.Author.Tests.{ltb-true, leb-true, eqb-true, lt-ltb, le-leb, eq-eqb}
-use Rattle.loops.specs.Choice.{and-first, and-second}
+use Rattle.loops.specs.laws.ChoiceLaws.{and-first, and-second}
 use Rattle.matrix.specs.Size.{maxN, sizedOf}
 
 pub record Sized (n len : ℕ) : Type 0 where

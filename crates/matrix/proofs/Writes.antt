@@ -12,7 +12,7 @@ use lib.Seq.{set-comm, getD-set-other}
 use lib.Ieee.{Float, nan}
 use Rattle.loops.specs.Choice.{if_then_else_}
 use Rattle.loops.specs.Cell.{at}
-use Rattle.loops.specs.Order.{Commute}
+use Rattle.loops.specs.laws.Order.{Commute}
 
 -- ---- steps
 

@@ -6,9 +6,11 @@ use Prim.Native.Nat.{ℕ, zero, suc, _+_, _-_, _*_, _≤_, _<_}
 use native.Mathlib.Omega.{arith}
 use lib.Seq.{getD-set-other, set-getD}
 use lib.Ieee.{Float, nan, ne}
-use Rattle.loops.specs.Choice.{if_then_else_, when-false}
+use Rattle.loops.specs.Choice.{if_then_else_}
+use Rattle.loops.specs.laws.ChoiceLaws.{when-false}
 use Rattle.loops.specs.Cell.{cell, stored}
-use Rattle.loops.specs.Loop.{loop, Turned, turn-more, turn-all}
+use Rattle.loops.specs.Loop.{loop}
+use Rattle.loops.specs.laws.Turned.{Turned, turn-more, turn-all}
 use Rattle.loops.specs.Arithmetic.{+0}
 use Rattle.matrix.specs.Rows.{addedOf, cellTurn, Zeros}
 use Rattle.matrix.proofs.Writes.{three-ways, rows-apart}

@@ -1,9 +1,10 @@
--- What factoring a matrix and solving with its factors mean: the sizes that are served, magnitude, the two functions, and laws of them.
+-- What factoring a matrix and solving with its factors mean: the sizes that are served, magnitude, the two functions; and the order
+-- in which the code goes.
 pub mod Size
 pub mod Magnitude
 pub mod Lu
-pub mod Rows
 pub mod Linear
-pub mod LengthLaws
-pub mod PivotLaws
-pub mod Unique
+-- ---- the code's own order
+pub mod Rows
+pub mod laws
+pub mod promises

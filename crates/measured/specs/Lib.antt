@@ -1,2 +1,2 @@
--- The measured lines that are proved.
-pub mod Measured
+-- No words of its own: the list is of what the other crates' definitions compute.
+pub mod promises

@@ -3,7 +3,7 @@ use crate::sink;
 use crate::source;
 use crate::source::Source;
 use crate::state::State;
-use interpolation::interpolate::Interpolation;
+use interpolation::Interpolation;
 use text::Place;
 
 const MOST: u64 = 64;
@@ -63,7 +63,7 @@ fn question(inp: &mut [u8], s: Source) -> Asked {
 }
 
 fn line(out: &mut [u8], place: Place, asked: Asked, yi: &mut [f64], cont: &[f64]) -> Place {
-    let r = interpolation::interpolate::interpolate(asked.xi, yi, cont, asked.xold, asked.h);
+    let r = interpolation::interpolate(asked.xi, yi, cont, asked.xold, asked.h);
     let said = interpolated(out, place, r, yi);
     sink::byte(out, said, b'\n')
 }

@@ -2,7 +2,7 @@
 use crate::sink;
 use crate::source;
 use crate::state::State;
-use number::Root;
+use roots::Root;
 use text::Place;
 
 pub fn square_root(inp: &mut [u8], out: &mut [u8], s: State) -> State {
@@ -12,7 +12,7 @@ pub fn square_root(inp: &mut [u8], out: &mut [u8], s: State) -> State {
     if !source.fit {
         return State { source, place };
     }
-    let p = sink::double(out, place, number::sqrt(text::double(x.word)));
+    let p = sink::double(out, place, roots::sqrt(text::double(x.word)));
     State {
         source,
         place: sink::byte(out, p, b'\n'),
@@ -30,7 +30,7 @@ pub fn inverse_root(inp: &mut [u8], out: &mut [u8], s: State) -> State {
     let p = said(
         out,
         place,
-        number::inverse_root(k.word as usize, text::double(x.word)),
+        roots::inverse_root(k.word as usize, text::double(x.word)),
     );
     State {
         source,

@@ -1,6 +1,6 @@
 // The solver, under the names that kind 0 has for its parts.
-pub use bdf::begin::begin;
-pub use bdf::go_on::go_on;
+pub use bdf::begin;
+pub use bdf::go_on;
 pub use bdf::settings::BDF;
 pub use bdf::types::Answer;
 pub use bdf::types::Kind;

@@ -9,7 +9,7 @@ use lib.Ieee.{Float, inf, binary64}
 use Rattle.loops.specs.Choice.{if_then_else_}
 use Rattle.loops.specs.Loop.{loop}
 use Rattle.number.specs.Helpers.{absOf, signumOf, minOf, maxOf}
-use Rattle.number.specs.Roots.{sqrtOf}
+use Rattle.roots.specs.Roots.{sqrtOf}
 use Rattle.rules.specs.Types.{Setting, Unset, Given, Tolerance, Scalar, Vector, TooManyComponents, Limits, Span, Progress, Turn, Refused, End, Success, Ended, FirstDerivative}
 use Rattle.loops.specs.Arithmetic.{_⊖_, _⊗_, _⊘_, +0}
 use Rattle.rules.specs.Literals.{thirtieth, nano}

@@ -6,7 +6,7 @@ use lib.Ieee as Ieee
 use lib.Ieee.{Float}
 use Rattle.loops.specs.Choice.{if_then_else_}
 use Rattle.loops.specs.Loop.{loop}
-use Rattle.number.specs.Roots.{sqrtOf}
+use Rattle.roots.specs.Roots.{sqrtOf}
 use Rattle.loops.specs.Arithmetic.{_⊕_, _⊗_, _⊘_, float, +0}
 use Rattle.rules.specs.Places.{rhs, scale, get}
 use Rattle.rules.specs.Predict.{epsilon}

@@ -9,7 +9,7 @@ use lib.Ieee.{Float, inf}
 use Rattle.loops.specs.Choice.{if_then_else_}
 use Rattle.loops.specs.Cell.{at}
 use Rattle.number.specs.Helpers.{minOf, maxOf}
-use Rattle.number.specs.Roots.{inverseRoot}
+use Rattle.roots.specs.Roots.{inverseRoot}
 use Rattle.loops.specs.Arithmetic.{_⊗_, +0}
 use Rattle.rules.specs.Literals.{maxFactor}
 use Rattle.rules.specs.Tables.{maxOrder, errorConsts}

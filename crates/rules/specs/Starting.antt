@@ -7,7 +7,7 @@ use lib.Ieee.{Float, binary64}
 use Rattle.loops.specs.Choice.{if_then_else_}
 use Rattle.loops.specs.Loop.{loop}
 use Rattle.number.specs.Helpers.{absOf, signumOf, minOf, maxOf}
-use Rattle.number.specs.Roots.{sqrtOf}
+use Rattle.roots.specs.Roots.{sqrtOf}
 use Rattle.loops.specs.Arithmetic.{_⊕_, _⊖_, _⊗_, _⊘_, +0}
 use Rattle.rules.specs.Places.{y, f0, f1, y1, rtol, atol, get, put}
 

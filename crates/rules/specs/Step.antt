@@ -8,7 +8,7 @@ use lib.Ieee.{Float}
 use Rattle.loops.specs.Choice.{if_then_else_}
 use Rattle.loops.specs.Cell.{at}
 use Rattle.number.specs.Helpers.{maxOf}
-use Rattle.number.specs.Roots.{inverseRoot}
+use Rattle.roots.specs.Roots.{inverseRoot}
 use Rattle.rules.specs.Types.{Progress, Pace, Newton, Derivative, Jacobian, Step, NewtonDerivative, FailedJacobian, StepNotice}
 use Rattle.loops.specs.Arithmetic.{_⊖_, _⊗_, one}
 use Rattle.rules.specs.Literals.{minFactor}

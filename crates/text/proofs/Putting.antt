@@ -12,7 +12,7 @@ use lib.Dec.{leb}
 use lib.ListN.{length, take, drop, set}
 use lib.Seq.{set-split}
 use borrow.Author.Tests.{leb-true}
-use Rattle.loops.specs.Choice.{when-true, when-false}
+use Rattle.loops.specs.laws.ChoiceLaws.{when-true, when-false}
 use Rattle.text.specs.declared.page.Place.{Place}
 use Rattle.text.specs.declared.page.Place.the-variants.{At, Full}
 use Rattle.text.specs.Page.{Page, puts}

@@ -3,7 +3,7 @@ use mathlib.Core.Path.{_≡_}
 use Prim.Native.Nat.{_-_, _*_}
 use native.Mathlib.Omega.{arith}
 use borrow.Author.Needs.{needs}
-use Rattle.rules.specs.LentLaws.{came-back}
+use Rattle.rules.specs.laws.LentLaws.{came-back}
 use Rattle.rules.specs.Rescale.{changeD}
 use Rattle.rules.specs.Attempt.{rescaledD}
 use Rattle.bdf.proofs.aim.rescale_d.Statement.{statement}

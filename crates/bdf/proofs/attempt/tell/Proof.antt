@@ -1,7 +1,7 @@
 -- `attempt::tell`: a row lies within the workspace. Assumes nothing.
 use native.Mathlib.Omega.{arith}
 use borrow.Author.Needs.{needs}
-use Rattle.loops.specs.RowLaws.{row-within}
+use Rattle.loops.specs.laws.RowLaws.{row-within}
 use Rattle.bdf.proofs.attempt.tell.Statement.{statement}
 use Rattle.bdf.proofs.attempt.tell.Tie as tie
 

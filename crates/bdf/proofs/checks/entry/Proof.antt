@@ -2,7 +2,7 @@
 use Prim.Native.Nat.{_+_}
 use native.Mathlib.Omega.{arith}
 use borrow.Author.Needs.{needs}
-use Rattle.rules.specs.CheckLaws.{vector-reaches}
+use Rattle.rules.specs.laws.CheckLaws.{vector-reaches}
 use Rattle.bdf.proofs.checks.entry.Statement.{statement}
 use Rattle.bdf.proofs.checks.entry.Tie as tie
 

@@ -4,7 +4,7 @@ use mathlib.Core.Path.{_≡_, refl, sym, _∙_}
 use Prim.Native.Nat.{_-_, _≤_}
 use native.Mathlib.Omega.{arith}
 use Rattle.rules.specs.Checks.{negative}
-use Rattle.rules.specs.CheckLaws.{reaches-each, relative-found, absolute-found, none-negative-here, none-left}
+use Rattle.rules.specs.laws.CheckLaws.{reaches-each, relative-found, absolute-found, none-negative-here, none-left}
 use Rattle.bdf.proofs.checks.negative.Statement.{statement}
 use Rattle.bdf.proofs.checks.negative.Tie as tie
 

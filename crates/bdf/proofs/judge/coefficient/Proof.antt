@@ -2,7 +2,7 @@
 use mathlib.Core.Path.{sym, _∙_}
 use borrow.Author.Needs.{needs}
 use borrow.Author.Tests.{lt-ltb, le-ltb}
-use Rattle.loops.specs.Choice.{when-true, when-false}
+use Rattle.loops.specs.laws.ChoiceLaws.{when-true, when-false}
 use Rattle.rules.specs.Judge.{coeff}
 use Rattle.bdf.proofs.judge.coefficient.Statement.{statement}
 use Rattle.bdf.proofs.judge.coefficient.Tie as tie

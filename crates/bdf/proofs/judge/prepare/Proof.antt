@@ -5,8 +5,8 @@ use native.Mathlib.Omega.{arith}
 use lib.Dec.{le→leb}
 use lib.Ieee.{inFloat}
 use lib.ListN.{length}
-use Rattle.loops.specs.Loop.{Turned, turn-none, turn-more, turn-all}
-use Rattle.rules.specs.ReadyLaws.{room-kept}
+use Rattle.loops.specs.laws.Turned.{Turned, turn-none, turn-more, turn-all}
+use Rattle.rules.specs.laws.ReadyLaws.{room-kept}
 use Rattle.rules.specs.Judge.{contTurn, prepared}
 use Rattle.bdf.proofs.judge.prepare.Statement.{statement}
 use Rattle.bdf.proofs.judge.prepare.Tie as tie

@@ -3,8 +3,8 @@ use mathlib.Core.Path.{_≡_, refl}
 use Prim.Native.Nat.{_-_, _+_}
 use native.Mathlib.Omega.{arith}
 use lib.ListN.{length}
-use Rattle.loops.specs.Loop.{Turned, turn-none, turn-more, turn-all}
-use Rattle.rules.specs.ReadyLaws.{room-kept}
+use Rattle.loops.specs.laws.Turned.{Turned, turn-none, turn-more, turn-all}
+use Rattle.rules.specs.laws.ReadyLaws.{room-kept}
 use Rattle.rules.specs.Judge.{summedTurn, summed}
 use Rattle.bdf.proofs.judge.sum_up.Statement.{statement}
 use Rattle.bdf.proofs.judge.sum_up.Tie as tie

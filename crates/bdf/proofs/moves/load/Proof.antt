@@ -3,7 +3,7 @@ use mathlib.Core.Path.{_≡_, refl}
 use Prim.Native.Nat.{_-_}
 use native.Mathlib.Omega.{arith}
 use lib.ListN.{length, length-set}
-use Rattle.loops.specs.Loop.{Turned, turn-none, turn-more, turn-all}
+use Rattle.loops.specs.laws.Turned.{Turned, turn-none, turn-more, turn-all}
 use Rattle.rules.specs.Moves.{loadTurn, loaded}
 use Rattle.bdf.proofs.moves.load.Statement.{statement}
 use Rattle.bdf.proofs.moves.load.Tie as tie

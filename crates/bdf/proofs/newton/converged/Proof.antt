@@ -3,7 +3,7 @@ use mathlib.Core.Logic.{⊎-elim}
 use borrow.Author.Needs.{needs}
 use Rattle.loops.specs.Choice.{if_then_else_}
 use Rattle.rules.specs.Newton.{converged}
-use Rattle.rules.specs.NewtonLaws.{follows-on, follows-never, follows-none}
+use Rattle.rules.specs.laws.NewtonLaws.{follows-on, follows-never, follows-none}
 use Rattle.bdf.proofs.newton.converged.Statement.{statement}
 use Rattle.bdf.proofs.newton.converged.Tie as tie
 

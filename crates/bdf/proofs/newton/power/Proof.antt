@@ -2,7 +2,7 @@
 use Prim.Native.Nat.{_-_}
 use mathlib.Core.Path.{refl}
 use native.Mathlib.Omega.{arith}
-use Rattle.loops.specs.Loop.{Turned, turn-none, turn-more, turn-all}
+use Rattle.loops.specs.laws.Turned.{Turned, turn-none, turn-more, turn-all}
 use Rattle.loops.specs.Arithmetic.{one}
 use Rattle.rules.specs.Newton.{powerTurn, power}
 use Rattle.bdf.proofs.newton.power.Statement.{statement}

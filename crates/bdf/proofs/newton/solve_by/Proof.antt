@@ -11,7 +11,7 @@ use Rattle.loops.specs.Refusal.{Outcome}
 use Rattle.matrix.specs.Linear.{lin_solveOf as linSolveOf, SolveOutcome}
 use Rattle.rules.specs.Places.{rhs, row}
 use Rattle.rules.specs.Moves.{loaded}
-use Rattle.rules.specs.PartLaws.{loaded-whole, loaded-part}
+use Rattle.rules.specs.laws.PartLaws.{loaded-whole, loaded-part}
 use Rattle.rules.specs.Newton.{solved}
 use Rattle.bdf.proofs.newton.solve_by.Statement.{statement}
 use Rattle.bdf.proofs.newton.solve_by.Tie as tie

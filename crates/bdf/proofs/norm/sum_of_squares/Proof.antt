@@ -2,7 +2,7 @@
 use Prim.Native.Nat.{_-_}
 use native.Mathlib.Omega.{arith}
 use borrow.Author.Needs.{needs}
-use Rattle.loops.specs.Loop.{Turned, turn-none, turn-more, turn-all}
+use Rattle.loops.specs.laws.Turned.{Turned, turn-none, turn-more, turn-all}
 use Rattle.rules.specs.Norm.{squareTurn, sumOfSquares}
 use Rattle.bdf.proofs.norm.sum_of_squares.Statement.{statement}
 use Rattle.bdf.proofs.norm.sum_of_squares.Tie as tie

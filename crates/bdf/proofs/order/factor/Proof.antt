@@ -6,9 +6,9 @@ use borrow.Author.Tests.{le-leb}
 use lib.Ieee.{Float}
 use Rattle.loops.specs.Choice.{if_then_else_}
 use Rattle.loops.specs.Refusal.{gives, refuses}
-use Rattle.number.specs.declared.Root.{Root}
-use Rattle.number.specs.declared.Root.the-variants.{Value, KOutside}
-use Rattle.number.specs.Roots.{inverseRoot, inverseRootOf, rootSaid}
+use Rattle.roots.specs.declared.Root.{Root}
+use Rattle.roots.specs.declared.Root.the-variants.{Value, KOutside}
+use Rattle.roots.specs.Roots.{inverseRoot, inverseRootOf, rootSaid}
 use Rattle.bdf.proofs.order.factor.Statement.{statement}
 use Rattle.bdf.proofs.order.factor.Tie as tie
 

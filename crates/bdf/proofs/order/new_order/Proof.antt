@@ -6,7 +6,8 @@ use native.Mathlib.Omega.{arith}
 use borrow.Author.Needs.{needs}
 use borrow.Author.Tests.{eq-eqb, ne-eqb, ltb-true}
 use lib.Dec.{eqb, ltb}
-use Rattle.loops.specs.Choice.{if_then_else_, and-passes, and-fails}
+use Rattle.loops.specs.Choice.{if_then_else_}
+use Rattle.loops.specs.laws.ChoiceLaws.{and-passes, and-fails}
 use Rattle.rules.specs.Tables.{maxOrder}
 use Rattle.rules.specs.Order.{newOrder}
 use Rattle.bdf.proofs.order.new_order.Statement.{statement}

@@ -1,7 +1,7 @@
 -- `places::get`: row v of 33 lies within the needed places. Assumes nothing.
 use borrow.Author.Needs.{needs}
 use native.Mathlib.Omega.{arith}
-use Rattle.loops.specs.RowLaws.{row-within}
+use Rattle.loops.specs.laws.RowLaws.{row-within}
 use Rattle.bdf.proofs.places.get.Statement.{statement}
 use Rattle.bdf.proofs.places.get.Tie as tie
 

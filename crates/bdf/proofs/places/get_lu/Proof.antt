@@ -1,7 +1,7 @@
 -- `places::get_lu`: a cell lies within the second n * n places. Assumes nothing.
 use borrow.Author.Needs.{needs}
 use native.Mathlib.Omega.{arith}
-use Rattle.loops.specs.Cell.{inside}
+use Rattle.loops.specs.laws.RowLaws.{inside}
 use Rattle.bdf.proofs.places.get_lu.Statement.{statement}
 use Rattle.bdf.proofs.places.get_lu.Tie as tie
 

@@ -1,7 +1,7 @@
 -- `places::jac`: a cell lies within the first n * n places. Assumes nothing.
 use borrow.Author.Needs.{needs}
 use native.Mathlib.Omega.{arith}
-use Rattle.loops.specs.Cell.{inside}
+use Rattle.loops.specs.laws.RowLaws.{inside}
 use Rattle.bdf.proofs.places.jac.Statement.{statement}
 use Rattle.bdf.proofs.places.jac.Tie as tie
 

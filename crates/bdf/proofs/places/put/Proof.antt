@@ -2,7 +2,7 @@
 use borrow.Author.Needs.{needs}
 use native.Mathlib.Omega.{arith}
 use lib.ListN.{length-set}
-use Rattle.loops.specs.RowLaws.{row-within}
+use Rattle.loops.specs.laws.RowLaws.{row-within}
 use Rattle.bdf.proofs.places.put.Statement.{statement}
 use Rattle.bdf.proofs.places.put.Tie as tie
 

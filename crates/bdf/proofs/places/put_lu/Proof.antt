@@ -2,7 +2,7 @@
 use borrow.Author.Needs.{needs}
 use native.Mathlib.Omega.{arith}
 use lib.ListN.{length-set}
-use Rattle.loops.specs.Cell.{inside}
+use Rattle.loops.specs.laws.RowLaws.{inside}
 use Rattle.bdf.proofs.places.put_lu.Statement.{statement}
 use Rattle.bdf.proofs.places.put_lu.Tie as tie
 

@@ -1,7 +1,7 @@
 -- `predict::predicted`: one difference a turn. Assumes nothing.
 use Prim.Native.Nat.{_-_, _+_}
 use native.Mathlib.Omega.{arith}
-use Rattle.loops.specs.Loop.{Turned, turn-none, turn-more, turn-all}
+use Rattle.loops.specs.laws.Turned.{Turned, turn-none, turn-more, turn-all}
 use Rattle.rules.specs.Predict.{predictedTurn, predicted}
 use Rattle.bdf.proofs.predict.predicted.Statement.{statement}
 use Rattle.bdf.proofs.predict.predicted.Tie as tie

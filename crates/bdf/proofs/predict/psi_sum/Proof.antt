@@ -1,7 +1,7 @@
 -- `predict::psi_sum`: one difference a turn. Assumes nothing.
 use Prim.Native.Nat.{_-_, _+_}
 use native.Mathlib.Omega.{arith}
-use Rattle.loops.specs.Loop.{Turned, turn-none, turn-more, turn-all}
+use Rattle.loops.specs.laws.Turned.{Turned, turn-none, turn-more, turn-all}
 use Rattle.rules.specs.Predict.{psiSumTurn, psiSum}
 use Rattle.bdf.proofs.predict.psi_sum.Statement.{statement}
 use Rattle.bdf.proofs.predict.psi_sum.Tie as tie

@@ -3,9 +3,9 @@ use borrow.Author.Needs.{needs}
 use mathlib.Core.List.{[]}
 use borrow.Author.Tests.{eq-eqb, ne-eqb}
 use Rattle.loops.specs.Choice.{if_then_else_}
-use Rattle.rules.specs.ReadyLaws.{room-kept}
+use Rattle.rules.specs.laws.ReadyLaws.{room-kept}
 use Rattle.rules.specs.Reply.{chosen}
-use Rattle.rules.specs.ReplyLaws.{ordered-ready}
+use Rattle.rules.specs.laws.ReplyLaws.{ordered-ready}
 use Rattle.bdf.proofs.CoreLaws.{again-prepared, again-rest, spoken-prepared, spoken-rest}
 use Rattle.bdf.proofs.reply.chosen.Statement.{statement}
 use Rattle.bdf.proofs.reply.chosen.Tie as tie

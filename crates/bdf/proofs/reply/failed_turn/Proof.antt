@@ -3,7 +3,7 @@ use borrow.Author.Needs.{needs}
 use mathlib.Core.Path.{_∙_}
 use mathlib.Core.List.{[]}
 use Rattle.rules.specs.Reply.{failedTurn}
-use Rattle.rules.specs.ReplyLaws.{stored-ready, halved-ready}
+use Rattle.rules.specs.laws.ReplyLaws.{stored-ready, halved-ready}
 use Rattle.bdf.proofs.CoreLaws.{again-prepared, again-rest}
 use Rattle.bdf.proofs.reply.failed_turn.Statement.{statement}
 use Rattle.bdf.proofs.reply.failed_turn.Tie as tie

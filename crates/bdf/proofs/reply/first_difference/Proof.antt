@@ -4,7 +4,7 @@ use mathlib.Core.Path.{_≡_, refl}
 use Prim.Native.Nat.{_-_}
 use native.Mathlib.Omega.{arith}
 use lib.ListN.{length}
-use Rattle.loops.specs.Loop.{Turned, turn-none, turn-more, turn-all}
+use Rattle.loops.specs.laws.Turned.{Turned, turn-none, turn-more, turn-all}
 use Rattle.rules.specs.Reply.{firstTurn, firstDifference}
 use Rattle.bdf.proofs.reply.first_difference.Statement.{statement}
 use Rattle.bdf.proofs.reply.first_difference.Tie as tie

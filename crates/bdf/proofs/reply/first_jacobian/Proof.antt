@@ -2,7 +2,7 @@
 use borrow.Author.Needs.{needs}
 use mathlib.Core.List.{[]}
 use Rattle.rules.specs.Reply.{firstJacobian}
-use Rattle.rules.specs.ReplyLaws.{stored-ready}
+use Rattle.rules.specs.laws.ReplyLaws.{stored-ready}
 use Rattle.bdf.proofs.reply.first_jacobian.Statement.{statement}
 use Rattle.bdf.proofs.reply.first_jacobian.Tie as tie
 

@@ -2,7 +2,7 @@
 use borrow.Author.Needs.{needs}
 use mathlib.Core.List.{[]}
 use Rattle.rules.specs.Reply.{orderJacobian}
-use Rattle.rules.specs.ReplyLaws.{stored-ready}
+use Rattle.rules.specs.laws.ReplyLaws.{stored-ready}
 use Rattle.bdf.proofs.CoreLaws.{again-prepared, again-rest}
 use Rattle.bdf.proofs.reply.order_jacobian.Statement.{statement}
 use Rattle.bdf.proofs.reply.order_jacobian.Tie as tie

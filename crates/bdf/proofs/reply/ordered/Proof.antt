@@ -1,8 +1,8 @@
 -- `reply::ordered`: its callees one after the other. The order chosen is one of 1 to 5. Assumes nothing.
 use borrow.Author.Needs.{needs}
 use mathlib.Core.Path.{_∙_}
-use Rattle.rules.specs.ReadyLaws.{room-kept}
-use Rattle.rules.specs.OrderLaws.{choice-within}
+use Rattle.rules.specs.laws.ReadyLaws.{room-kept}
+use Rattle.rules.specs.laws.OrderLaws.{choice-within}
 use Rattle.rules.specs.Reply.{ordered}
 use Rattle.bdf.proofs.reply.ordered.Statement.{statement}
 use Rattle.bdf.proofs.reply.ordered.Tie as tie

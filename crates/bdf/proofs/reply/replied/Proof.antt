@@ -2,7 +2,7 @@
 use borrow.Author.Needs.{needs}
 use mathlib.Core.Path.{refl, _∙_}
 use mathlib.Core.List.{[]}
-use Rattle.rules.specs.ReplyLaws.{values-brought}
+use Rattle.rules.specs.laws.ReplyLaws.{values-brought}
 use Rattle.bdf.specs.Core.{whole}
 use Rattle.bdf.proofs.CoreLaws.{says-prepared, says-rest, spoken-prepared, spoken-rest, plain-resumable, plain-resumed, newton-prepared, newton-rest, restart-wants, restart-replied}
 use Rattle.bdf.proofs.reply.replied.Statement.{statement}

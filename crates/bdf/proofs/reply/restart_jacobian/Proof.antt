@@ -2,7 +2,7 @@
 use borrow.Author.Needs.{needs}
 use mathlib.Core.List.{[]}
 use Rattle.rules.specs.Reply.{restartJacobian}
-use Rattle.rules.specs.ReplyLaws.{stored-ready, outdated-ready}
+use Rattle.rules.specs.laws.ReplyLaws.{stored-ready, outdated-ready}
 use Rattle.bdf.proofs.CoreLaws.{again-prepared, again-rest}
 use Rattle.bdf.proofs.reply.restart_jacobian.Statement.{statement}
 use Rattle.bdf.proofs.reply.restart_jacobian.Tie as tie

@@ -1,7 +1,7 @@
 -- `reply::restarted`: its callees one after the other. Assumes nothing.
 use borrow.Author.Needs.{needs}
 use mathlib.Core.Path.{_∙_}
-use Rattle.rules.specs.ReadyLaws.{room-kept}
+use Rattle.rules.specs.laws.ReadyLaws.{room-kept}
 use Rattle.rules.specs.Reply.{restarted}
 use Rattle.bdf.proofs.reply.restarted.Statement.{statement}
 use Rattle.bdf.proofs.reply.restarted.Tie as tie

@@ -1,7 +1,7 @@
 -- `reply::start_noticed`: by the reply; a modification brings a state. Assumes nothing.
 use borrow.Author.Needs.{needs}
 use mathlib.Core.List.{[]}
-use Rattle.rules.specs.ReplyLaws.{state-brought}
+use Rattle.rules.specs.laws.ReplyLaws.{state-brought}
 use Rattle.bdf.proofs.CoreLaws.{says-prepared, says-rest, again-prepared, again-rest, spoken-prepared, spoken-rest}
 use Rattle.bdf.proofs.reply.start_noticed.Statement.{statement}
 use Rattle.bdf.proofs.reply.start_noticed.Tie as tie

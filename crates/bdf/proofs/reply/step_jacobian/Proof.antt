@@ -2,7 +2,7 @@
 use borrow.Author.Needs.{needs}
 use mathlib.Core.List.{[]}
 use Rattle.rules.specs.Reply.{stepJacobian}
-use Rattle.rules.specs.ReplyLaws.{stored-ready, outdated-ready}
+use Rattle.rules.specs.laws.ReplyLaws.{stored-ready, outdated-ready}
 use Rattle.bdf.proofs.CoreLaws.{steps-resumable, steps-resumed}
 use Rattle.bdf.proofs.reply.step_jacobian.Statement.{statement}
 use Rattle.bdf.proofs.reply.step_jacobian.Tie as tie

@@ -1,7 +1,7 @@
 -- `reply::step_noticed`: by the reply; a modification brings a state. Assumes nothing.
 use borrow.Author.Needs.{needs}
 use mathlib.Core.List.{[]}
-use Rattle.rules.specs.ReplyLaws.{state-brought}
+use Rattle.rules.specs.laws.ReplyLaws.{state-brought}
 use Rattle.bdf.proofs.CoreLaws.{says-prepared, says-rest, spoken-prepared, spoken-rest, plain-resumable, plain-resumed, steps-resumable, steps-resumed}
 use Rattle.bdf.proofs.reply.step_noticed.Statement.{statement}
 use Rattle.bdf.proofs.reply.step_noticed.Tie as tie

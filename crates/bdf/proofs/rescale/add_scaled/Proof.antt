@@ -3,8 +3,8 @@ use mathlib.Core.Path.{_≡_, refl, sym, _∙_}
 use Prim.Native.Nat.{_-_}
 use native.Mathlib.Omega.{arith}
 use lib.ListN.{length, length-set}
-use Rattle.loops.specs.Loop.{Turned, turn-none, turn-more, turn-all}
-use Rattle.loops.specs.Choice.{when-true, when-false}
+use Rattle.loops.specs.laws.Turned.{Turned, turn-none, turn-more, turn-all}
+use Rattle.loops.specs.laws.ChoiceLaws.{when-true, when-false}
 use Rattle.rules.specs.Rescale.{addScaled, scaledTurn}
 use Rattle.bdf.proofs.rescale.add_scaled.Statement.{statement}
 use Rattle.bdf.proofs.rescale.add_scaled.Tie as tie

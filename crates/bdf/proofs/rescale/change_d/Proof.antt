@@ -4,7 +4,7 @@ use native.Mathlib.Omega.{arith}
 use native.Mathlib.Nat.{min-eq-left}
 use borrow.Author.Needs.{needs}
 use Rattle.loops.specs.Choice.{if_then_else_}
-use Rattle.loops.specs.RowLaws.{row-within}
+use Rattle.loops.specs.laws.RowLaws.{row-within}
 use Rattle.rules.specs.Rescale.{changeD, rescaled}
 use Rattle.bdf.proofs.rescale.change_d.Statement.{statement}
 use Rattle.bdf.proofs.rescale.change_d.Tie as tie

@@ -5,7 +5,7 @@ use native.Mathlib.Omega.{arith}
 use lib.ListN.{length, set, length-set}
 use lib.Ieee.{Float}
 use mathlib.Core.List.{List}
-use Rattle.loops.specs.Loop.{Turned, turn-none, turn-more, turn-all}
+use Rattle.loops.specs.laws.Turned.{Turned, turn-none, turn-more, turn-all}
 use Rattle.loops.specs.Arithmetic.{one}
 use Rattle.rules.specs.Rescale.{firstRow}
 use Rattle.bdf.proofs.rescale.first_row.Statement.{statement}

@@ -1,7 +1,7 @@
 -- `rescale::m_table`: one row a turn, below the row of ones. Assumes nothing.
 use Prim.Native.Nat.{_-_}
 use native.Mathlib.Omega.{arith}
-use Rattle.loops.specs.Loop.{Turned, turn-none, turn-more, turn-all}
+use Rattle.loops.specs.laws.Turned.{Turned, turn-none, turn-more, turn-all}
 use Rattle.rules.specs.Rescale.{mTable, mRow}
 use Rattle.bdf.proofs.rescale.m_table.Statement.{statement}
 use Rattle.bdf.proofs.rescale.m_table.Tie as tie

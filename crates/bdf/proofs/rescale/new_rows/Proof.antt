@@ -3,9 +3,9 @@ use mathlib.Core.Path.{_≡_, refl}
 use Prim.Native.Nat.{_-_, _+_, _*_, _≤_}
 use native.Mathlib.Omega.{arith}
 use lib.ListN.{length}
-use Rattle.loops.specs.Loop.{Turned, turn-none, turn-more, turn-all}
+use Rattle.loops.specs.laws.Turned.{Turned, turn-none, turn-more, turn-all}
 use Rattle.matrix.specs.Size.{maxN}
-use Rattle.loops.specs.RowLaws.{row-within}
+use Rattle.loops.specs.laws.RowLaws.{row-within}
 use Rattle.rules.specs.Rescale.{newRows, newRow}
 use Rattle.bdf.proofs.rescale.new_rows.Statement.{statement}
 use Rattle.bdf.proofs.rescale.new_rows.Tie as tie

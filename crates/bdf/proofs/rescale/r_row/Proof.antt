@@ -2,7 +2,7 @@
 use mathlib.Core.Path.{refl}
 use Prim.Native.Nat.{_-_}
 use native.Mathlib.Omega.{arith}
-use Rattle.loops.specs.Loop.{Turned, turn-none, turn-more, turn-all}
+use Rattle.loops.specs.laws.Turned.{Turned, turn-none, turn-more, turn-all}
 use Rattle.rules.specs.Rescale.{rRow, rTurn}
 use Rattle.bdf.proofs.rescale.r_row.Statement.{statement}
 use Rattle.bdf.proofs.rescale.r_row.Tie as tie

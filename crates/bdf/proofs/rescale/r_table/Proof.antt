@@ -1,7 +1,7 @@
 -- `rescale::r_table`: one row a turn, below the row of ones. Assumes nothing.
 use Prim.Native.Nat.{_-_}
 use native.Mathlib.Omega.{arith}
-use Rattle.loops.specs.Loop.{Turned, turn-none, turn-more, turn-all}
+use Rattle.loops.specs.laws.Turned.{Turned, turn-none, turn-more, turn-all}
 use Rattle.rules.specs.Rescale.{rTable, rRow}
 use Rattle.bdf.proofs.rescale.r_table.Statement.{statement}
 use Rattle.bdf.proofs.rescale.r_table.Tie as tie

@@ -1,7 +1,7 @@
 -- `run::first_stage`: what a reply leaves to do, or what follows a step. Assumes nothing.
 use borrow.Author.Needs.{needs}
 use mathlib.Core.Path.{sym, _∙_}
-use Rattle.loops.specs.Choice.{when-true, when-false}
+use Rattle.loops.specs.laws.ChoiceLaws.{when-true, when-false}
 use Rattle.bdf.proofs.run.first_stage.Statement.{statement}
 use Rattle.bdf.proofs.run.first_stage.Tie as tie
 

@@ -6,10 +6,10 @@ use mathlib.Core.List.{[]}
 use Prim.Native.Nat.{_≤_}
 use native.Mathlib.Omega.{arith}
 use lib.ListN.{length}
-use Rattle.loops.specs.Choice.{when-true, when-false}
+use Rattle.loops.specs.laws.ChoiceLaws.{when-true, when-false}
 use Rattle.matrix.specs.Size.{maxN}
 use Rattle.rules.specs.Attempt.{attemptsLeft}
-use Rattle.rules.specs.MainLoopLaws.{attemptsIn, rest-after, fewer-after, ready-after}
+use Rattle.rules.specs.laws.MainLoopLaws.{attemptsIn, rest-after, fewer-after, ready-after}
 use Rattle.bdf.specs.Core.{bare, tried, leftOver, Prepared}
 use Rattle.bdf.proofs.CoreLaws.{ready-of}
 use Rattle.bdf.proofs.run.run.Statement.{statement}

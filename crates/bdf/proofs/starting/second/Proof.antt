@@ -1,7 +1,7 @@
 -- `starting::second`: one component a turn. Assumes nothing.
 use Prim.Native.Nat.{_-_}
 use native.Mathlib.Omega.{arith}
-use Rattle.loops.specs.Loop.{Turned, turn-none, turn-more, turn-all}
+use Rattle.loops.specs.laws.Turned.{Turned, turn-none, turn-more, turn-all}
 use Rattle.rules.specs.Starting.{secondTurn, second}
 use Rattle.bdf.proofs.starting.second.Statement.{statement}
 use Rattle.bdf.proofs.starting.second.Tie as tie

@@ -2,7 +2,7 @@
 use borrow.Author.Needs.{needs}
 use mathlib.Core.Path.{_∙_}
 use native.Mathlib.Omega.{arith}
-use Rattle.rules.specs.ReadyLaws.{room-kept}
+use Rattle.rules.specs.laws.ReadyLaws.{room-kept}
 use Rattle.rules.specs.Step.{newtonReplied}
 use Rattle.bdf.proofs.step.newton_replied.Statement.{statement}
 use Rattle.bdf.proofs.step.newton_replied.Tie as tie

@@ -4,7 +4,7 @@ use mathlib.Core.List.{List}
 use borrow.Author.Needs.{needs}
 use lib.Ieee.{Float}
 use Rattle.loops.specs.Cell.{at}
-use Rattle.rules.specs.TableBits.{alpha-bits}
+use Rattle.rules.specs.laws.TableBits.{alpha-bits}
 use Rattle.bdf.proofs.tables.alpha.Statement.{statement}
 use Rattle.bdf.proofs.tables.alpha.Tie as tie
 

@@ -4,7 +4,7 @@ use mathlib.Core.List.{List}
 use borrow.Author.Needs.{needs}
 use lib.Ieee.{Float}
 use Rattle.loops.specs.Cell.{at}
-use Rattle.rules.specs.TableBits.{error-bits}
+use Rattle.rules.specs.laws.TableBits.{error-bits}
 use Rattle.bdf.proofs.tables.error_const.Statement.{statement}
 use Rattle.bdf.proofs.tables.error_const.Tie as tie
 

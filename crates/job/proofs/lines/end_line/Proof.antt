@@ -2,7 +2,7 @@
 use mathlib.Core.Path.{sym, _∙_}
 use borrow.Author.Needs.{needs}
 use Rattle.job.specs.Lines.{endFields, endLine}
-use Rattle.job.specs.FieldLaws.{length-end}
+use Rattle.job.specs.laws.FieldLaws.{length-end}
 use Rattle.job.proofs.Rooms.{whole, not-begun}
 use Rattle.job.proofs.lines.end_line.Statement.{statement}
 use Rattle.job.proofs.lines.end_line.Tie as tie

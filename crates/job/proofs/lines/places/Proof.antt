@@ -1,6 +1,6 @@
 -- `lines::places`: no count has more than 20 digits. Assumes nothing.
 use borrow.Author.Needs.{needs}
-use Rattle.text.specs.DigitLaws.{places-at-most-20}
+use Rattle.text.specs.laws.DigitLaws.{places-at-most-20}
 use Rattle.job.proofs.lines.places.Statement.{statement}
 use Rattle.job.proofs.lines.places.Tie as tie
 

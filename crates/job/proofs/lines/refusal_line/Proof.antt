@@ -1,6 +1,6 @@
 -- `lines::refusal_line` meets its contract: the line is as long as the code says. Assumes nothing.
 use borrow.Author.Needs.{needs}
-use Rattle.job.specs.FieldLaws.{length-refusal}
+use Rattle.job.specs.laws.FieldLaws.{length-refusal}
 use Rattle.job.proofs.Rooms.{whole, not-begun}
 use Rattle.job.proofs.lines.refusal_line.Statement.{statement}
 use Rattle.job.proofs.lines.refusal_line.Tie as tie

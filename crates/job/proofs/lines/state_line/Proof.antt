@@ -1,6 +1,6 @@
 -- `lines::state_line` meets its contract: the line is as long as the code says. Assumes nothing.
 use borrow.Author.Needs.{needs}
-use Rattle.job.specs.FieldLaws.{length-state}
+use Rattle.job.specs.laws.FieldLaws.{length-state}
 use Rattle.job.proofs.Rooms.{whole, not-begun}
 use Rattle.job.proofs.lines.state_line.Statement.{statement}
 use Rattle.job.proofs.lines.state_line.Tie as tie

@@ -6,7 +6,7 @@ use native.Mathlib.Nat.{pow-suc, pow-le-pow-right, lt-of-lt-of-le}
 use native.Mathlib.Numerals.{add-one}
 use native.Mathlib.Omega.{arith}
 use lib.Dec.{lit<}
-use Rattle.loops.specs.Loop.{Turned, turn-none, turn-more, turn-all}
+use Rattle.loops.specs.laws.Turned.{Turned, turn-none, turn-more, turn-all}
 use Rattle.text.specs.Words.{wordTurn}
 use Rattle.job.specs.Packed.{headLength, headBits}
 use Rattle.job.proofs.packed.head_bits.Statement.{statement}

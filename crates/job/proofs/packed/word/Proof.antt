@@ -6,7 +6,7 @@ use native.Mathlib.Omega.{arith}
 use lib.ListN.{length}
 use borrow.Author.Needs.{needs}
 use borrow.Author.Tests.{le-leb}
-use Rattle.loops.specs.Choice.{when-true}
+use Rattle.loops.specs.laws.ChoiceLaws.{when-true}
 use Rattle.text.specs.declared.word.Word.{Word}
 use Rattle.text.specs.declared.word.Word.the-variants.{Is, Short}
 use Rattle.text.specs.Words.{wordAt, wordFrom}

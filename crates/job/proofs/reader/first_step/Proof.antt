@@ -2,7 +2,7 @@
 use mathlib.Core.Path.{sym}
 use borrow.Author.Needs.{needs}
 use borrow.Author.Tests.{eq-eqb, ne-eqb}
-use Rattle.loops.specs.Choice.{when-true, when-false}
+use Rattle.loops.specs.laws.ChoiceLaws.{when-true, when-false}
 use Rattle.job.specs.Reading.{firstStepOf}
 use Rattle.job.proofs.reader.first_step.Statement.{statement}
 use Rattle.job.proofs.reader.first_step.Tie as tie

@@ -11,7 +11,7 @@ use lib.ListN.{length, drop}
 use lib.Ieee.{Float}
 use borrow.Author.Needs.{needs}
 use borrow.Author.Tests.{lt-ltb, le-ltb, not-true, not-false, eqb-true}
-use Rattle.loops.specs.Choice.{when-true, when-false, and-first}
+use Rattle.loops.specs.laws.ChoiceLaws.{when-true, when-false, and-first}
 use Rattle.loops.specs.Refusal.{gives, refuses}
 use Rattle.job.specs.declared.packed.Head.{Head}
 use Rattle.job.specs.declared.reader.Job.{Job}

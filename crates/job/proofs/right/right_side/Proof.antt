@@ -9,7 +9,7 @@ use lib.ListN.{length}
 use lib.Ieee.{Float}
 use borrow.Author.Needs.{needs}
 use borrow.Author.Tests.{not-true, not-false, leb-true, eqb-true}
-use Rattle.loops.specs.Choice.{when-true, when-false, and-first, and-second}
+use Rattle.loops.specs.laws.ChoiceLaws.{when-true, when-false, and-first, and-second}
 use Rattle.job.specs.Types.{maxN}
 use Rattle.job.specs.Right.{sizedOf, rightOf, rightSideOf}
 use Rattle.job.proofs.right.right_side.Statement.{statement}

@@ -6,8 +6,8 @@ use native.Mathlib.Nat.{mul-le-mul}
 use native.Mathlib.Omega.{arith}
 use lib.ListN.{length}
 use lib.Ieee.{binary64, ofBits}
-use Rattle.loops.specs.Cell.{inside}
-use Rattle.loops.specs.Loop.{Turned, turn-none, turn-more, turn-all}
+use Rattle.loops.specs.laws.RowLaws.{inside}
+use Rattle.loops.specs.laws.Turned.{Turned, turn-none, turn-more, turn-all}
 use Rattle.job.specs.Types.{maxN}
 use Rattle.job.specs.Right.{sumTurn, rowSum}
 use Rattle.job.proofs.right.row_sum.Statement.{statement}

@@ -2,7 +2,7 @@
 -- the slice. Assumes nothing.
 use native.Mathlib.Omega.{arith}
 use borrow.Author.Needs.{needs}
-use Rattle.loops.specs.Cell.{inside}
+use Rattle.loops.specs.laws.RowLaws.{inside}
 use Rattle.matrix.proofs.cell.get.Statement.{statement}
 use Rattle.matrix.proofs.cell.get.Tie as tie
 

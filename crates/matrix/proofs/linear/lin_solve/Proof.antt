@@ -9,12 +9,12 @@ use lib.ListN.{length}
 use lib.Dec.{eqb}
 use lib.Ieee.{Float}
 use borrow.Author.Tests.{not-true, not-false, eq-eqb, ne-eqb}
-use Rattle.loops.specs.Choice.{when-true, when-false, and-fails, and-passes}
+use Rattle.loops.specs.laws.ChoiceLaws.{when-true, when-false, and-fails, and-passes}
 use Rattle.loops.specs.Refusal.{gives, refuses}
 use Rattle.matrix.specs.Size.{sizedOf}
 use Rattle.matrix.specs.Linear.{SolveOutcome, insideOf, solvedOf, lin_solveOf}
 use Rattle.matrix.proofs.Size.{sized-means}
-use Rattle.matrix.specs.PivotLaws.{each-inside}
+use Rattle.matrix.specs.laws.PivotLaws.{each-inside}
 use Rattle.matrix.proofs.linear.lin_solve.Statement.{statement}
 use Rattle.matrix.proofs.linear.lin_solve.Tie as tie
 

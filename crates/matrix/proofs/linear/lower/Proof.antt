@@ -7,7 +7,7 @@ use lib.ListN.{length, length-set}
 use lib.Seq.{getD-set-other}
 use lib.Ieee.{nan}
 use Rattle.loops.specs.Cell.{at}
-use Rattle.loops.specs.Loop.{Turned, turn-none, turn-more, turn-all}
+use Rattle.loops.specs.laws.Turned.{Turned, turn-none, turn-more, turn-all}
 use Rattle.matrix.specs.Linear.{lowerTurn}
 use Rattle.matrix.proofs.linear.lower.Statement.{statement}
 use Rattle.matrix.proofs.linear.lower.Tie as tie

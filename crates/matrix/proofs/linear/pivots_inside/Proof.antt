@@ -5,9 +5,9 @@ use mathlib.Core.Bool.{true}
 use Prim.Native.Nat.{_-_}
 use native.Mathlib.Omega.{arith}
 use borrow.Author.Tests.{lt-ltb}
-use Rattle.loops.specs.Loop.{Turned, turn-none, turn-more, turn-all}
+use Rattle.loops.specs.laws.Turned.{Turned, turn-none, turn-more, turn-all}
 use Rattle.matrix.specs.Linear.{insideTurn, insideOf}
-use Rattle.matrix.specs.PivotLaws.{one-outside}
+use Rattle.matrix.specs.laws.PivotLaws.{one-outside}
 use Rattle.matrix.proofs.linear.pivots_inside.Statement.{statement}
 use Rattle.matrix.proofs.linear.pivots_inside.Tie as tie
 

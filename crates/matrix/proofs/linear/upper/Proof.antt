@@ -8,7 +8,7 @@ use lib.Seq.{getD-set-other}
 use lib.Ieee as Ieee
 use lib.Ieee.{nan}
 use Rattle.loops.specs.Cell.{at}
-use Rattle.loops.specs.Loop.{Turned, turn-none, turn-more, turn-all}
+use Rattle.loops.specs.laws.Turned.{Turned, turn-none, turn-more, turn-all}
 use Rattle.matrix.specs.Linear.{upperTurn}
 use Rattle.matrix.proofs.linear.upper.Statement.{statement}
 use Rattle.matrix.proofs.linear.upper.Tie as tie

@@ -8,7 +8,7 @@ use lib.ListN.{length}
 use lib.Seq.{getD-set-other}
 use lib.Ieee.{Float, nan}
 use Rattle.loops.specs.Cell.{cell, stored}
-use Rattle.loops.specs.Loop.{Turned, turn-none, turn-more}
+use Rattle.loops.specs.laws.Turned.{Turned, turn-none, turn-more}
 use Rattle.matrix.specs.Rows.{addedOf, cellTurn, Zeros}
 use Rattle.matrix.proofs.Writes.{columns-apart}
 use Rattle.matrix.proofs.Zeros.{zeros-stay, all-turned}

@@ -8,7 +8,7 @@ use borrow.Author.Tests.{eqb-true}
 use lib.Dec.{eqb}
 use lib.Seq.{set-getD}
 use lib.Ieee.{Float, nan}
-use Rattle.loops.specs.Choice.{either}
+use Rattle.loops.specs.laws.ChoiceLaws.{either}
 use Rattle.loops.specs.Cell.{cell, stored}
 use Rattle.matrix.specs.Lu.{exchangedOf}
 use Rattle.matrix.proofs.lu.exchange.Statement.{statement}

@@ -3,7 +3,7 @@ use mathlib.Core.Path.{_≡_}
 use Prim.Native.Nat.{_-_, _*_}
 use native.Mathlib.Omega.{arith}
 use lib.ListN.{length}
-use Rattle.loops.specs.Loop.{Turned, turn-none, turn-more, turn-all}
+use Rattle.loops.specs.laws.Turned.{Turned, turn-none, turn-more, turn-all}
 use Rattle.matrix.specs.Lu.{exchangedOf}
 use Rattle.matrix.proofs.lu.exchange_rows.Statement.{statement}
 use Rattle.matrix.proofs.lu.exchange_rows.Tie as tie

@@ -8,7 +8,7 @@ use native.Mathlib.Omega.{arith}
 use lib.ListN.{length, set, length-set}
 use lib.Ieee.{Float, eq}
 use borrow.Author.Tests.{not-true, not-false, eq-eqb, ne-eqb}
-use Rattle.loops.specs.Choice.{when-true, when-false}
+use Rattle.loops.specs.laws.ChoiceLaws.{when-true, when-false}
 use Rattle.loops.specs.Cell.{at}
 use Rattle.loops.specs.Refusal.{gives, refuses}
 use Rattle.loops.specs.Arithmetic.{+0}

@@ -1,6 +1,6 @@
 -- `lu::magnitude` meets its contract: each way returns what the definition chooses by the same test. Assumes nothing.
 use mathlib.Core.Path.{sym}
-use Rattle.loops.specs.Choice.{when-true, when-false}
+use Rattle.loops.specs.laws.ChoiceLaws.{when-true, when-false}
 use Rattle.matrix.specs.Magnitude.{magnitudeOf}
 use Rattle.matrix.proofs.lu.magnitude.Statement.{statement}
 use Rattle.matrix.proofs.lu.magnitude.Tie as tie

@@ -7,8 +7,10 @@ use native.Mathlib.Omega.{arith}
 use lib.ListN.{length}
 use lib.Seq.{getD-set-same}
 use lib.Ieee.{Float, nan, neg}
-use Rattle.loops.specs.Cell.{cell, stored, inside}
-use Rattle.loops.specs.Loop.{loop, Turned, turn-none, turn-more, turn-all}
+use Rattle.loops.specs.Cell.{cell, stored}
+use Rattle.loops.specs.laws.RowLaws.{inside}
+use Rattle.loops.specs.Loop.{loop}
+use Rattle.loops.specs.laws.Turned.{Turned, turn-none, turn-more, turn-all}
 use Rattle.loops.specs.Arithmetic.{_⊗_}
 use Rattle.matrix.specs.Lu.{scaleTurn}
 use Rattle.matrix.specs.Rows.{cellTurn, rowTurn, Zeros}

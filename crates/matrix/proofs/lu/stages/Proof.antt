@@ -7,7 +7,7 @@ use native.Mathlib.Nat.{sub-zero}
 use mathlib.Core.Bool.{Bool}
 use lib.Ieee.{Float, eq}
 use lib.ListN.{length, length-set}
-use Rattle.loops.specs.Choice.{when-true, when-false}
+use Rattle.loops.specs.laws.ChoiceLaws.{when-true, when-false}
 use Rattle.loops.specs.Arithmetic.{+0}
 use Rattle.matrix.specs.Lu.{lastOf, stagesOf}
 use Rattle.matrix.proofs.Stages.{no-stage-left, stage-fails, stage-passes}

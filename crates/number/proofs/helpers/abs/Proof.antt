@@ -7,7 +7,8 @@ use lib.Dec.{T}
 use lib.Ieee.{Float, binary64, ne, fits, nanBits, ofBits, toBits}
 use lib.Ieee.Bits.{nanBits-is}
 use Rattle.number.specs.Helpers.{absOf}
-use Rattle.number.proofs.Sign.{is-nan, is-number, cleared, magnitude-is-number}
+use Rattle.loops.specs.laws.FloatLaws.{is-nan, is-number}
+use Rattle.number.specs.laws.Sign.{cleared, magnitude-is-number}
 use Rattle.number.proofs.helpers.abs.Statement.{statement}
 use Rattle.number.proofs.helpers.abs.Tie as tie
 

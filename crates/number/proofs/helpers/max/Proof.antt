@@ -1,6 +1,6 @@
 -- `number::max` meets its contract: its three ways are those of the definition, by the same tests. Assumes nothing.
 use mathlib.Core.Path.{sym, _∙_}
-use Rattle.loops.specs.Choice.{when-true, when-false}
+use Rattle.loops.specs.laws.ChoiceLaws.{when-true, when-false}
 use Rattle.number.specs.Helpers.{maxOf}
 use Rattle.number.proofs.helpers.max.Statement.{statement}
 use Rattle.number.proofs.helpers.max.Tie as tie

@@ -1,6 +1,6 @@
 -- `number::min` meets its contract: its three ways are those of the definition, by the same tests. Assumes nothing.
 use mathlib.Core.Path.{sym, _∙_}
-use Rattle.loops.specs.Choice.{when-true, when-false}
+use Rattle.loops.specs.laws.ChoiceLaws.{when-true, when-false}
 use Rattle.number.specs.Helpers.{minOf}
 use Rattle.number.proofs.helpers.min.Statement.{statement}
 use Rattle.number.proofs.helpers.min.Tie as tie

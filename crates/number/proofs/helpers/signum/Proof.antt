@@ -3,7 +3,8 @@ use mathlib.Core.Path.{sym, subst}
 use lib.Dec.{T}
 use lib.Ieee.{neg, ofBits}
 use Rattle.number.specs.Helpers.{signumOf}
-use Rattle.number.proofs.Sign.{is-nan, is-number, sign-clear, sign-set}
+use Rattle.loops.specs.laws.FloatLaws.{is-nan, is-number}
+use Rattle.number.specs.laws.Sign.{sign-clear, sign-set}
 use Rattle.number.proofs.helpers.signum.Statement.{statement}
 use Rattle.number.proofs.helpers.signum.Tie as tie
 

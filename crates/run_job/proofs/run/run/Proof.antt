@@ -9,7 +9,7 @@ use Rattle.job.specs.declared.reader.Job.{Job}
 use Rattle.job.specs.declared.reader.Reading.{Reading}
 use Rattle.job.specs.declared.reader.Reading.the-variants.{Read}
 use Rattle.job.specs.Reading.{ReadOutcome, readingOf, readOf}
-use Rattle.job.specs.ReadingLaws.{read-serves}
+use Rattle.job.specs.laws.ReadingLaws.{read-serves}
 use Rattle.run_job.proofs.run.run.Statement.{statement}
 use Rattle.run_job.proofs.run.run.Tie as tie
 

@@ -1,7 +1,7 @@
 -- `text::page::digit` meets its contract: the two ways of the code are the two of `digit`. Assumes nothing.
 use borrow.Author.Needs.{needs}
 use borrow.Author.Tests.{lt-ltb, le-ltb}
-use Rattle.loops.specs.Choice.{when-true, when-false}
+use Rattle.loops.specs.laws.ChoiceLaws.{when-true, when-false}
 use mathlib.Core.Path.{sym}
 use Rattle.text.specs.Digits.{digit}
 use Rattle.text.proofs.page.digit.Statement.{statement}

@@ -2,7 +2,7 @@
 use mathlib.Core.Path.{sym, _∙_}
 use borrow.Author.Needs.{needs}
 use borrow.Author.Tests.{leb-true}
-use Rattle.text.specs.DigitLaws.{length-spelled}
+use Rattle.text.specs.laws.DigitLaws.{length-spelled}
 use Rattle.text.proofs.Putting.{room-fits, puts-in-room, puts-refused, puts-on-full}
 use Rattle.text.proofs.page.put_digits.Statement.{statement}
 use Rattle.text.proofs.page.put_digits.Tie as tie

@@ -5,7 +5,7 @@ use native.Mathlib.Nat.{pow-suc, pow-le-pow-right, lt-of-lt-of-le}
 use lib.Dec.{lit<}
 use native.Mathlib.Numerals.{add-one}
 use native.Mathlib.Omega.{arith}
-use Rattle.loops.specs.Loop.{Turned, turn-none, turn-more, turn-all}
+use Rattle.loops.specs.laws.Turned.{Turned, turn-none, turn-more, turn-all}
 use Rattle.text.specs.Words.{wordTurn, wordFrom}
 use Rattle.text.proofs.word.eight.Statement.{statement}
 use Rattle.text.proofs.word.eight.Tie as tie

@@ -7,7 +7,7 @@ use native.Mathlib.Omega.{arith}
 use borrow.Author.Needs.{needs}
 use lib.ListN.{length}
 use borrow.Author.Tests.{le-leb, lt-leb}
-use Rattle.loops.specs.Choice.{when-true, when-false}
+use Rattle.loops.specs.laws.ChoiceLaws.{when-true, when-false}
 use Rattle.text.specs.declared.word.Word.the-variants.{Is, Short}
 use Rattle.text.specs.Words.{wordAt, wordFrom}
 use Rattle.text.proofs.word.word_at.Statement.{statement}

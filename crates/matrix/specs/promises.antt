@@ -1,0 +1,2 @@
+-- What is promised of factoring and solving.
+pub mod Unique

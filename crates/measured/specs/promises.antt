@@ -1,0 +1,2 @@
+-- The measured lines that are proved.
+pub mod Measured

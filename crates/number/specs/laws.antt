@@ -1,0 +1,2 @@
+-- What holds of a double's sign, for the proofs of the helpers.
+pub mod Sign

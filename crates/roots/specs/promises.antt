@@ -1,0 +1,3 @@
+-- What is promised of the two roots: what they mean, and that nothing else meets their contracts.
+pub mod Meaning
+pub mod Unique

@@ -1,0 +1,116 @@
+// Whether a guess is the inverse root, or the pattern above it, by one product that keeps its upper 64 bits. It may be unsure, and is seldom.
+// Of m^k * n that product gives h, with an error of at most 3 * k, where p stands for the limit. The pattern above has m + 1 for m,
+// which is at least k / m more; so both neighbours are judged by h and p too.
+ghost use Prim.Native.Nat.{_+_, _*_, _^_, _≤_, _<_};
+ghost use Rattle.roots.specs.Scaled.{Asked};
+ghost use Rattle.roots.specs.Quick.{High, Near, LimitIs, placed, settled};
+use crate::units::Units;
+use crate::units::units_of;
+
+const HIDDEN: u64 = 0x10_0000_0000_0000;
+
+const HALF: u64 = 0x1_0000_0000;
+
+const LAST_FINITE: u64 = 0x7fef_ffff_ffff_ffff;
+
+// The upper 64 bits of u * v, or at most 3 less: the product of the lower halves and what the middle ones carry are left out.
+fn high(u: u64, v: u64) -> u64
+    ensures { λ r. ⌜ High u v r ⌝ }
+{
+    let u0 = u % HALF;
+    let u1 = u / HALF;
+    let v0 = v % HALF;
+    let v1 = v / HALF;
+    u1 * v1 + u1 * v0 / HALF + u0 * v1 / HALF
+}
+
+// m^k * n, each factor 11 places up so that it fills 64 bits, without its 64 * k lower bits.
+fn upper(m: u64, k: usize, n: u64) -> u64
+    requires { ⌜ (m < 2 ^ 53) × (n < 2 ^ 53) ⌝ }
+    ensures { λ r. ⌜ Near ((m * 2 ^ 11) ^ k * (n * 2 ^ 11)) k r ⌝ }
+{
+    let factor = m * 2048;
+    let mut h = n * 2048;
+    for _ in 0..k {
+        h = high(h, factor);
+    }
+    h
+}
+
+// The limit that such an upper part is held to, for a pattern of q places and an x of g; 0 where it has no place in 64 bits.
+fn limit(k: u64, q: u64, g: u64) -> u64
+    requires { ⌜ (k ≤ 7) × (q < 2046) × (g < 2046) ⌝ }
+    ensures { λ r. ⌜ (0 < r → LimitIs k q g r) ⌝ }
+{
+    let have = 1022 * k + 1085;
+    let used = (q + 1) * k + g;
+    if have < used {
+        return 0;
+    }
+    if 63 < have - used {
+        return 0;
+    }
+    1 << (have - used)
+}
+
+// Where the limit p lies: from h on, up to the next pattern's, or below h, down to the last one's.
+enum Place {
+    Here,
+    Below,
+    Unknown,
+}
+
+fn place_of(h: u64, p: u64, slack: u64, reach: u64) -> Place
+    requires { ⌜ (slack ≤ 21) × (reach < 2 ^ 32) ⌝ }
+    ensures { λ r. ⌜ placed h p slack reach r ⌝ }
+{
+    if p < h {
+        if reach <= h - p {
+            return Place::Unknown;
+        }
+        if h - p + slack <= reach {
+            return Place::Below;
+        }
+        return Place::Unknown;
+    }
+    if p - h < slack {
+        return Place::Unknown;
+    }
+    if p - h < reach {
+        return Place::Here;
+    }
+    Place::Unknown
+}
+
+pub(crate) enum Settled {
+    At(u64),
+    Unsure,
+}
+
+// The inverse root, where it is b or the pattern below and the upper parts tell so.
+pub(crate) fn settle(k: usize, x: Units, b: u64) -> Settled
+    requires { ⌜ Asked k (x .digits) (x .places) ⌝ }
+    ensures { λ r. ⌜ settled k (x .digits) (x .places) r ⌝ }
+{
+    if b < HIDDEN {
+        return Settled::Unsure;
+    }
+    if LAST_FINITE <= b {
+        return Settled::Unsure;
+    }
+    let r = units_of(b);
+    let power = k as u64;
+    let p = limit(power, r.places, x.places);
+    let h = upper(r.digits, k, x.digits);
+    let reach = power * (p / (r.digits + power));
+    match place_of(h, p, 3 * power, reach) {
+        Place::Here => Settled::At(b),
+        Place::Below => {
+            if HIDDEN < r.digits {
+                return Settled::At(b - 1);
+            }
+            Settled::Unsure
+        }
+        Place::Unknown => Settled::Unsure,
+    }
+}

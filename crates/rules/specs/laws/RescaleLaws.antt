@@ -1,0 +1,33 @@
+-- What holds of rescaling whatever the numbers are: D keeps its length, and the rows above the order stay.
+use mathlib.Core.Path.{_≡_, refl}
+use mathlib.Core.List.{List}
+use Prim.Native.Nat.{ℕ, _+_, _*_, _≤_, min}
+use native.Mathlib.Nat.{mul-le-mul-right, min-le-left}
+use native.Mathlib.Omega.{arith}
+use lib.Ieee.{Float}
+use lib.ListN.{length}
+use Rattle.loops.specs.laws.ChoiceLaws.{either}
+use Rattle.loops.specs.Cell.{at}
+use Rattle.rules.specs.Tables.{maxOrder}
+use Rattle.loops.specs.laws.LoopLaws.{stored-length, stored-beyond}
+use Rattle.rules.specs.Rescale.{copied, rescaled, changeD}
+
+rescaled-length : (n order : ℕ) (factor : Float) (d : List Float) → length (rescaled n order factor d) ≡ length d
+unfolding rescaled copied
+rescaled-length n order factor d = stored-length ((order + 1) * n) _ d
+
+pub changeD-length : (n order : ℕ) (factor : Float) (d : List Float) → length (changeD n order factor d) ≡ length d
+unfolding changeD
+changeD-length n order factor d =
+    either (λ (t : List Float). length t ≡ length d) _ (λ _. refl) (λ _. rescaled-length n (min order maxOrder) factor d)
+
+rescaled-above : (n order : ℕ) (factor : Float) (d : List Float) (j : ℕ) → (order + 1) * n ≤ j → at (rescaled n order factor d) j ≡ at d j
+unfolding rescaled copied
+rescaled-above n order factor d j h = stored-beyond ((order + 1) * n) _ d j h
+
+-- place j lies in a row above the order
+pub rows-above-stay : (n order : ℕ) (factor : Float) (d : List Float) (j : ℕ) → (order + 1) * n ≤ j → at (changeD n order factor d) j ≡ at d j
+unfolding changeD
+rows-above-stay n order factor d j h =
+    let fewer : (min order maxOrder + 1) * n ≤ (order + 1) * n = mul-le-mul-right n (omega (arith, min-le-left order maxOrder)) in
+    either (λ (t : List Float). at t j ≡ at d j) _ (λ _. refl) (λ _. rescaled-above n (min order maxOrder) factor d j (omega arith))
