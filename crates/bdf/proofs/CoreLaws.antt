@@ -1,7 +1,7 @@
 -- What a state without its pivots and a stage's outcome tell of the definitions, which have the pivots inside.
 use mathlib.Core.Path.{_≡_, refl, sym, ap, subst, _∙_}
 use mathlib.Core.List.{List, [], _∷_}
-use mathlib.Core.Bool.{true, false, true≢false}
+use mathlib.Core.Bool.{Bool, true, false, true≢false}
 use Prim.Native.Nat.{ℕ}
 use native.Mathlib.Omega.{arith}
 use lib.ListN.{length}
@@ -14,10 +14,9 @@ use Rattle.rules.specs.declared.types.Progress.{Progress}
 use Rattle.rules.specs.declared.types.Reply.{Reply}
 use Rattle.rules.specs.declared.types.Awaited.{Awaited}
 use Rattle.rules.specs.declared.types.Turn.{Turn}
-use Rattle.rules.specs.declared.stages.Tried.{Tried}
 use Rattle.rules.specs.State.{After, after}
 use Rattle.rules.specs.laws.Ready.{Sane, Ready, Awake, Answered, Handed}
-use Rattle.rules.specs.Attempt.{says, again, mainLoop}
+use Rattle.rules.specs.Attempt.{Tried, rejected, says, mainLoop}
 use Rattle.rules.specs.Step.{newtonReplied}
 use Rattle.rules.specs.Replies.{wants, valuesWant}
 use Rattle.rules.specs.Reply.{stepped, newtonTurn, restarted, replied}
@@ -26,7 +25,7 @@ use Rattle.rules.specs.laws.MainLoopLaws.{rest}
 use Rattle.bdf.specs.declared.core.Core.{Core}
 use Rattle.bdf.specs.declared.core.Outcome.{Outcome}
 use Rattle.bdf.specs.declared.core.Next.{Next}
-use Rattle.bdf.specs.Core.{whole, bare, coreOf, turnOf, tried, spoken, plainly, leftOver, resumed, Prepared, Resumable, restartPlace}
+use Rattle.bdf.specs.Core.{whole, bare, coreOf, turnOf, triedWhen, tried, spoken, plainly, leftOver, resumed, Prepared, Resumable, restartPlace}
 use Rattle.bdf.proofs.types.Awaited.{the-type}
 use Rattle.bdf.proofs.AwaitedLaws.{of-one}
 
@@ -50,31 +49,76 @@ awake-of b w =
       patience = w .patience;
     }
 
+-- ---- what an outcome is, read off what it comes to
+
+isRejected : Tried → Bool
+isRejected (rejected p) = true
+isRejected (says t) = false
+
+heldBy : Progress → Tried → Progress
+heldBy other (rejected p) = p
+heldBy other (says t) = other
+
+toldBy : Turn → Tried → Turn
+toldBy other (rejected p) = other
+toldBy other (says t) = t
+
+was-said : (again : Bool) (p : Progress) (u : Turn) {t : Turn} → triedWhen again p u ≡ says t → (again ≡ false) × (u ≡ t)
+unfolding isRejected toldBy
+was-said true p u e = absurd (true≢false (ap isRejected e))
+was-said false p u e = (refl, ap (toldBy u) e)
+
+was-rejected : (again : Bool) (p : Progress) (u : Turn) {r : Progress} → triedWhen again p u ≡ rejected r → (again ≡ true) × (p ≡ r)
+unfolding isRejected heldBy
+was-rejected true p u e = (refl, ap (heldBy p) e)
+was-rejected false p u e = absurd (true≢false (sym (ap isRejected e)))
+
+is-rejected : (again : Bool) (p : Progress) (u : Turn) → again ≡ true → triedWhen again p u ≡ rejected p
+is-rejected true p u t = refl
+is-rejected false p u t = absurd (true≢false (sym t))
+
+is-said : (again : Bool) (p : Progress) (u : Turn) → again ≡ false → triedWhen again p u ≡ says u
+is-said true p u f = absurd (true≢false f)
+is-said false p u f = refl
+
+pub tried-again : (o : Outcome) (pivot : List ℕ) → o .again ≡ true → tried o pivot ≡ rejected (whole (o .at) pivot)
+tried-again o pivot t = is-rejected (o .again) _ _ t
+
 -- ---- a stage that says something leaves nothing to do
 
 not-again : (o : Outcome) (v u : List Float) → o .again ≡ false → Prepared o v u
 not-again o v u f t = absurd (true≢false (sym t ∙ f))
 
 module _ (o : Outcome) (v u : List Float) where
-  pub says-prepared : {pivot : List ℕ} {t : Turn} → tried o pivot ≡ says t → Prepared o v u
-  says-prepared e = not-again o v u (ap (λ (t : Tried). t .again) e)
+  -- what is left, by whether it was rejected
+  pub left-again : (pivot : List ℕ) → o .again ≡ true → leftOver o pivot v u ≡ mainLoop (whole (o .at) pivot) v u
+  left-again pivot t = ap (λ (a : Tried). rest a v u) (tried-again o pivot t)
 
-  pub says-rest : {pivot : List ℕ} {t : Turn} → tried o pivot ≡ says t → leftOver o pivot v u ≡ after t v u
-  says-rest e = when-false _ _ (ap (λ (t : Tried). t .again) e) ∙ ap (λ (t : Tried). after (t .turn) v u) e
+  pub left-said : (pivot : List ℕ) → o .again ≡ false → leftOver o pivot v u ≡ after (turnOf o pivot) v u
+  left-said pivot f = ap (λ (a : Tried). rest a v u) (is-said (o .again) _ _ f)
 
-  pub spoken-prepared : {pivot : List ℕ} {a : After Turn} → after (tried o pivot) v u ≡ spoken a → Prepared o v u
-  spoken-prepared e = not-again o v u (ap (λ (a : After Tried). a .is .again) e)
+  pub says-prepared : (pivot : List ℕ) {t : Turn} → tried o pivot ≡ says t → Prepared o v u
+  says-prepared pivot e = not-again o v u (was-said (o .again) (whole (o .at) pivot) (turnOf o pivot) e .0)
 
-  pub spoken-rest : {pivot : List ℕ} {a : After Turn} → after (tried o pivot) v u ≡ spoken a → leftOver o pivot v u ≡ a
-  spoken-rest e =
-      when-false _ _ (ap (λ (a : After Tried). a .is .again) e) ∙ ap (λ (a : After Tried). after (a .is .turn) (a .ws) (a .q)) e
+  pub says-rest : (pivot : List ℕ) {t : Turn} → tried o pivot ≡ says t → leftOver o pivot v u ≡ after t v u
+  says-rest pivot e = ap (λ (a : Tried). rest a v u) e
+
+  pub spoken-prepared : (pivot : List ℕ) {a : After Turn} → after (tried o pivot) v u ≡ spoken a → Prepared o v u
+  spoken-prepared pivot e = says-prepared pivot (ap (λ (a : After Tried). a .is) e)
+
+  pub spoken-rest : (pivot : List ℕ) {a : After Turn} → after (tried o pivot) v u ≡ spoken a → leftOver o pivot v u ≡ a
+  spoken-rest pivot e = ap (λ (a : After Tried). rest (a .is) (a .ws) (a .q)) e
 
   -- one that was rejected leaves the main loop
-  pub again-rest : {p : Progress} {pivot : List ℕ} → tried o pivot ≡ again p → leftOver o pivot v u ≡ mainLoop p v u
-  again-rest e = when-true _ _ (ap (λ (t : Tried). t .again) e) ∙ ap (λ (t : Tried). mainLoop (t .turn .run .at) v u) e
+  pub again-rest : (pivot : List ℕ) {p : Progress} → tried o pivot ≡ rejected p → leftOver o pivot v u ≡ mainLoop p v u
+  again-rest pivot e = ap (λ (a : Tried). rest a v u) e
 
-  pub again-prepared : {p : Core} → tried o [] ≡ again (bare p) → Ready (bare p) v u → Prepared o v u
-  again-prepared e r t = subst (λ (s : Progress). Ready s v u) (sym (ap (λ (t : Tried). t .turn .run .at) e)) r
+  pub again-prepared : {p : Core} → tried o [] ≡ rejected (bare p) → Ready (bare p) v u → Prepared o v u
+  again-prepared e r t = subst (λ (s : Progress). Ready s v u) (sym (was-rejected (o .again) (bare (o .at)) (turnOf o []) e .1)) r
+
+-- the state from which the next is tried
+pub again-at : (o : Outcome) {p : Core} → tried o [] ≡ rejected (bare p) → o .at ≡ p
+again-at o e = ap coreOf (was-rejected (o .again) (bare (o .at)) (turnOf o []) e .1)
 
 -- ---- a reply
 
@@ -99,7 +143,9 @@ module _ (r : Next) (v u : List Float) where
 
 module _ (p : Core) (pivot : List ℕ) (values ws q v u : List Float) (o : Outcome) (e : after (tried o pivot) v u ≡ newtonReplied (whole p pivot) values ws q) where
   pub newton-prepared : Ready (bare p) ws q → Awake (bare p) → length v ≡ length ws → length u ≡ length q → Prepared o v u
-  newton-prepared i w f g t = ready-of [] (replied-ready (ready-of pivot i) (awake-of pivot w) values e t f g)
+  newton-prepared i w f g t =
+      let again = ap (λ (a : Tried). after a v u) (sym (tried-again o pivot t)) ∙ e in
+      ready-of [] (replied-ready (ready-of pivot i) (awake-of pivot w) values again f g)
 
   pub newton-rest : leftOver o pivot v u ≡ newtonTurn (whole p pivot) values ws q
   unfolding newtonTurn
@@ -126,5 +172,5 @@ handed-of {p = p} h =
       answered = record { count = h .answered .count; suits = h .answered .suits; enough = h .answered .enough; iterates = h .answered .iterates };
     }
 
-pub said-turn : {o : Outcome} {pivot : List ℕ} {t : Turn} → tried o pivot ≡ says t → turnOf o pivot ≡ t
-said-turn e = ap (λ (t : Tried). t .turn) e
+pub said-turn : (o : Outcome) (pivot : List ℕ) {t : Turn} → tried o pivot ≡ says t → turnOf o pivot ≡ t
+said-turn o pivot e = was-said (o .again) (whole (o .at) pivot) (turnOf o pivot) e .1

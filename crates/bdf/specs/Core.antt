@@ -11,11 +11,10 @@ use Rattle.rules.specs.declared.types.Awaited.{Awaited}
 use Rattle.rules.specs.declared.types.Awaited.the-variants.{FirstDerivative, FirstJacobian, StartDerivative, StartNotice, ModifiedStartDerivative, ModifiedStartJacobian, NewtonDerivative, FailedJacobian, StepNotice, ModifiedStepDerivative, ModifiedStepJacobian, OrderJacobian, Ended}
 use Rattle.rules.specs.State.{After, after}
 use Rattle.rules.specs.laws.Ready.{Ready}
-use Rattle.rules.specs.Attempt.{says}
+use Rattle.rules.specs.Attempt.{Tried, rejected, says}
 use Rattle.rules.specs.Reply.{stepped}
 use Rattle.rules.specs.laws.MainLoopLaws.{rest}
 use Rattle.rules.specs.declared.stages.Factors.{Factors}
-use Rattle.rules.specs.declared.stages.Tried.{Tried}
 use Rattle.bdf.specs.declared.core.Core.{Core}
 use Rattle.bdf.specs.declared.core.Outcome.{Outcome}
 use Rattle.bdf.specs.declared.core.Next.{Next}
@@ -62,8 +61,13 @@ bare p = whole p []
 abbrev pub turnOf : Outcome → List ℕ → Turn
 turnOf o pivot = record { answer = o .answer; run = record { awaited = o .awaited; at = whole (o .at) pivot } }
 
+-- rejected where the next is to be tried; the answer and the place are then not read
+abbrev pub triedWhen : Bool → Progress → Turn → Tried
+triedWhen true p t = rejected p
+triedWhen false p t = says t
+
 abbrev pub tried : Outcome → List ℕ → Tried
-tried o pivot = record { again = o .again; turn = turnOf o pivot }
+tried o pivot = triedWhen (o .again) (whole (o .at) pivot) (turnOf o pivot)
 
 -- a stage that always says something
 abbrev pub spoken : After Turn → After Tried

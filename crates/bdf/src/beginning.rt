@@ -135,7 +135,7 @@ fn fresh(n: usize, limits: Limits, span: Span, x: f64) -> Progress
             safety: 0.0,
             error_norm: 0.0,
         },
-        pivot: [0; 32],
+        pivot: [0; MAX_N],
     }
 }
 

@@ -1,5 +1,6 @@
 // A run's state without its pivots, and what its stages hand to one another. The pivots stand in an array that is lent beside:
 // so no stage copies it, and what is left are single numbers.
+use matrix::MAX_N;
 use rules::types::Aim;
 use rules::types::Answer;
 use rules::types::Awaited;
@@ -16,7 +17,7 @@ use rules::types::Turn;
 ghost use mathlib.Core.Path.{_≡_};
 ghost use mathlib.Core.List.{List};
 ghost use Prim.Native.Nat.{ℕ};
-ghost use Rattle.rules.specs.Attempt.{end as endOf, says as saysOf, again as againOf};
+ghost use Rattle.rules.specs.Attempt.{end as endOf, says as saysOf, rejected as rejectedOf};
 ghost use Rattle.rules.specs.State.{turn as turnOf};
 ghost use Rattle.bdf.specs.Core.{whole as wholeOf, coreOf, turnOf as fullTurn, tried};
 
@@ -34,7 +35,8 @@ pub(crate) struct Core {
     pub newton: Newton,
 }
 
-// What a stage came to: rejected, so that an attempt is tried from the state `at`, or an answer and the place that awaits its reply.
+// What a stage came to: rejected, so that an attempt is tried from the state `at`; or an answer, and the place that awaits its reply.
+// Of a rejected one neither is read. They are a question and its place, so that nothing could ever take it for an end.
 pub(crate) struct Outcome {
     pub again: bool,
     pub answer: Answer,
@@ -73,7 +75,7 @@ pub(crate) fn without_pivots(p: Progress) -> Core
     }
 }
 
-fn whole(p: Core, pivot: [usize; 32]) -> Progress
+fn whole(p: Core, pivot: [usize; MAX_N]) -> Progress
     ensures { λ r. ⌜ r ≡ wholeOf p pivot ⌝ }
 {
     let limits = p.limits;
@@ -99,7 +101,7 @@ fn whole(p: Core, pivot: [usize; 32]) -> Progress
     }
 }
 
-pub(crate) fn turn(o: Outcome, pivot: [usize; 32]) -> Turn
+pub(crate) fn turn(o: Outcome, pivot: [usize; MAX_N]) -> Turn
     ensures { λ r. ⌜ r ≡ fullTurn o pivot ⌝ }
 {
     let answer = o.answer;
@@ -131,15 +133,12 @@ pub(crate) fn end(status: Status, p: Core) -> Outcome
 }
 
 pub(crate) fn again(p: Core) -> Outcome
-    ensures { λ r. ⌜ ((pivot : List ℕ) → tried r pivot ≡ againOf (wholeOf p pivot)) ⌝ }
+    ensures { λ r. ⌜ ((pivot : List ℕ) → tried r pivot ≡ rejectedOf (wholeOf p pivot)) ⌝ }
 {
     Outcome {
         again: true,
-        answer: Answer::End {
-            status: Status::StepSizeTooSmall,
-            h: 0.0,
-        },
-        awaited: Awaited::Ended,
+        answer: Answer::Derivative(0.0),
+        awaited: Awaited::NewtonDerivative,
         at: p,
     }
 }

@@ -7,6 +7,7 @@ use crate::places::Y_NEW;
 use crate::places::get;
 use crate::places::put;
 use crate::places::row;
+use matrix::MAX_N;
 ghost use mathlib.Core.Path.{_≡_};
 ghost use Prim.Native.Nat.{_+_, _*_, _≤_, _<_};
 ghost use lib.ListN.{length};
@@ -42,7 +43,7 @@ fn solve(ws: &mut [f64], n: usize, pivot: &[usize])
     requires { ⌜ Room n (now ws) × (n ≤ length (now pivot)) ⌝ }
     ensures { λ _. ⌜ now (ws .exit) ≡ solved n (now (pivot .entry)) (now (ws .entry)) ⌝ }
 {
-    let mut b = [0.0; 32];
+    let mut b = [0.0; MAX_N];
     solve_by(ws, &mut b[..n], n, pivot);
 }
 

@@ -1,5 +1,6 @@
 // Rescaling the differences D to another step size: `compute_r`, `matmul` and `change_d` of the Rust. A table of
 // order + 1 rows is an array of 36, its entry (i, j) at i * 6 + j.
+use crate::moves::load;
 use crate::unit::unit_r;
 use matrix::MAX_N;
 ghost use mathlib.Core.Path.{_≡_};
@@ -8,7 +9,7 @@ ghost use lib.ListN.{length};
 ghost use Rattle.loops.specs.Arithmetic.{one};
 ghost use Rattle.matrix.specs.Size.{maxN};
 ghost use Rattle.rules.specs.Tables.{maxOrder};
-ghost use Rattle.rules.specs.Rescale.{firstRow, mRow, mTable, rRow, rTable, computeR, addScaled, productRow, matmul as product, newRow, newRows, copied, changeD};
+ghost use Rattle.rules.specs.Rescale.{firstRow, mRow, mTable, rRow, rTable, computeR, addScaled, productRow, matmul as product, newRow, newRows, changeD};
 
 // Room for six new rows of as many components as there can be.
 const ROOM: usize = 6 * MAX_N;
@@ -140,15 +141,6 @@ fn new_rows(ru: &[f64; 36], d: &[f64], n: usize, size: usize) -> [f64; ROOM]
     scratch
 }
 
-fn copy_rows(d: &mut [f64], scratch: &[f64; ROOM], places: usize)
-    requires { ⌜ (places ≤ 6 * maxN) × (places ≤ length (now d)) ⌝ }
-    ensures { λ _. ⌜ now (d .exit) ≡ copied (now (scratch .entry)) places (now (d .entry)) ⌝ }
-{
-    for j in 0..places {
-        d[j] = scratch[j];
-    }
-}
-
 // D at the step size that is `factor` times the present one. The orders of the run are 1 to 5.
 pub(crate) fn change_d(d: &mut [f64], n: usize, order: usize, factor: f64)
     requires { ⌜ (1 ≤ order) × (order ≤ maxOrder) × (n ≤ maxN) × (6 * n ≤ length (now d)) ⌝ }
@@ -162,5 +154,5 @@ pub(crate) fn change_d(d: &mut [f64], n: usize, order: usize, factor: f64)
     let u = unit_r(order);
     let ru = matmul(&r, &u, size);
     let scratch = new_rows(&ru, d, n, size);
-    copy_rows(d, &scratch, size * n);
+    load(d, &scratch, 0, 0, size * n);
 }

@@ -17,11 +17,10 @@ use Rattle.rules.specs.Tables.{alphas}
 use Rattle.rules.specs.Rescale.{changeD}
 use Rattle.rules.specs.Places.{d, yPredict, yNew, delta, row}
 use Rattle.rules.specs.Moves.{copied, filled, loaded}
-use Rattle.rules.specs.State.{with, withPace, withAim, withNewton, changed, turn, total+1, lu+1, rejected+1, After, after, Left, left}
+use Rattle.rules.specs.State.{withPace, withAim, withNewton, changed, turn, total+1, lu+1, rejected+1, After, after, Left, left}
 use Rattle.rules.specs.Predict.{predict, scaled, psied}
 use Rattle.rules.specs.Factor.{factored}
 use Rattle.rules.specs.declared.stages.Factors.{Factors}
-use Rattle.rules.specs.declared.stages.Tried.{Tried}
 use Rattle.rules.specs.declared.stages.Aimed.{Aimed}
 use Rattle.rules.specs.declared.stages.Aimed.the-variants.{At, AtEnd}
 
@@ -68,13 +67,17 @@ aimed p ws =
     let a = aimOf p (p .pace .h) in
     if Ieee.lt +0 (p .span .direction ⊗ (a .«x_new» ⊖ p .span .xend)) then cutAtEnd p ws else left (At (p .pace) a) ws
 
--- ---- what an attempt comes to: rejected, so that the next is tried from the state `turn` holds, or a turn
+-- ---- what an attempt comes to
 
-abbrev pub again : Progress → Tried
-again p = record { again = true; turn = turn (End StepSizeTooSmall +0) Ended p }
+-- it is rejected, and the next is tried from this state; or it says something: a question, a notice, the end
+pub data Tried : Type 0 where
+  rejected : Progress → Tried
+  says : Turn → Tried
 
-abbrev pub says : Turn → Tried
-says t = record { again = false; turn = t }
+-- what follows it: more from the state of a rejected one, and nothing where something was said
+abbrev pub onward : (Progress → List Float → List Float → After Turn) → Tried → List Float → List Float → After Turn
+onward more (rejected p) ws q = more p ws q
+onward more (says t) ws q = after t ws q
 
 -- the end: its status, and direction * current_h
 abbrev pub end : Status → Progress → Turn
@@ -107,19 +110,43 @@ mustFactor p =
 -- the factoring's pivots; where it succeeded it is current, and c is the one that it is of
 abbrev pub factoredFrom : Progress → Factors → Progress
 factoredFrom p f =
-    with (lu+1 p) (lu+1 p .evals) (p .steps) (p .order) (p .x)
-    (record { h = p .pace .h; «equal_steps» = p .pace .«equal_steps»; «lu_is_current» = true })
-    (p .aim) (p .aim .c) (p .newton) (f .pivot)
+    record {
+      n = p .n;
+      limits = p .limits;
+      span = p .span;
+      evals = lu+1 p .evals;
+      steps = p .steps;
+      order = p .order;
+      x = p .x;
+      pace = record { h = p .pace .h; «equal_steps» = p .pace .«equal_steps»; «lu_is_current» = true };
+      aim = p .aim;
+      «current_c» = p .aim .c;
+      newton = p .newton;
+      pivot = f .pivot;
+    }
 
 abbrev pub singularFrom : Progress → Factors → Progress
 singularFrom p f =
-    with (lu+1 p) (lu+1 p .evals) (p .steps) (p .order) (p .x) (p .pace) (p .aim) (p .«current_c») (p .newton) (f .pivot)
+    record {
+      n = p .n;
+      limits = p .limits;
+      span = p .span;
+      evals = lu+1 p .evals;
+      steps = p .steps;
+      order = p .order;
+      x = p .x;
+      pace = p .pace;
+      aim = p .aim;
+      «current_c» = p .«current_c»;
+      newton = p .newton;
+      pivot = f .pivot;
+    }
 
 unfoldable pub refactored : Progress → List Float → List Float → After Tried
 refactored p ws q =
     let f = factored (p .n) (p .aim .c) (p .pivot) ws in
     let s = halved (singularFrom p (f .is)) (f .ws) in
-    if f .is .ok then newtonStart (factoredFrom p (f .is)) (f .ws) q else after (again (s .is)) (s .ws) q
+    if f .is .ok then newtonStart (factoredFrom p (f .is)) (f .ws) q else after (rejected (s .is)) (s .ws) q
 
 -- the prediction, its scale and psi
 unfoldable pub predictedAll : ℕ → ℕ → List Float → List Float
@@ -166,7 +193,7 @@ unfoldable pub tries : ℕ → Progress → List Float → List Float → After 
 tries zero p ws q = after (end NeedLargerNMax p) ws q
 tries (suc k) p ws q =
     let a = attempt p ws q in
-    if a .is .again then tries k (a .is .turn .run .at) (a .ws) (a .q) else after (a .is .turn) (a .ws) (a .q)
+    onward (tries k) (a .is) (a .ws) (a .q)
 
 abbrev pub attemptsLeft : Progress → ℕ
 attemptsLeft p = (p .limits .steps - p .steps .total) + 1

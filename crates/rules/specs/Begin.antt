@@ -5,14 +5,14 @@ use Prim.Native.Nat.{ℕ, max}
 use lib.Dec.{ltb, eqb}
 use lib.ListN.{length, take, drop, replicate}
 use lib.Ieee as Ieee
-use lib.Ieee.{Float, inf, binary64}
+use lib.Ieee.{Float, inf}
 use Rattle.loops.specs.Choice.{if_then_else_}
 use Rattle.loops.specs.Loop.{loop}
 use Rattle.number.specs.Helpers.{absOf, signumOf, minOf, maxOf}
 use Rattle.roots.specs.Roots.{sqrtOf}
 use Rattle.rules.specs.Types.{Setting, Unset, Given, Tolerance, Scalar, Vector, TooManyComponents, Limits, Span, Progress, Turn, Refused, End, Success, Ended, FirstDerivative}
 use Rattle.loops.specs.Arithmetic.{_⊖_, _⊗_, _⊘_, +0}
-use Rattle.rules.specs.Literals.{thirtieth, nano}
+use Rattle.rules.specs.Literals.{ten, threeHundredths, nano}
 use Rattle.matrix.specs.Size.{maxN}
 use Rattle.rules.specs.Predict.{epsilon}
 use Rattle.rules.specs.Places.{y, rtol, atol, need, row}
@@ -40,7 +40,7 @@ least r rs n = loop 0 n (leastTurn r rs) (inf false)
 
 -- eps_term.max(sqrt_term), from rtol_min
 unfoldable pub derivedTol : Float → Float
-derivedTol rtolMin = maxOf (Ieee.ofBits binary64 0x4024_0000_0000_0000 ⊗ epsilon ⊘ rtolMin) (minOf (sqrtOf rtolMin) thirtieth)
+derivedTol rtolMin = maxOf (ten ⊗ epsilon ⊘ rtolMin) (minOf (sqrtOf rtolMin) threeHundredths)
 
 -- newton_tol_val
 unfoldable pub newtonTol : Setting → Float → Float
@@ -72,7 +72,7 @@ fresh n limits span x =
       aim = record { «h_signed» = +0; «x_start» = +0; «x_new» = +0; c = +0 };
       «current_c» = +0;
       newton = record { iters = 0; prev = +0; safety = +0; «error_norm» = +0 };
-      pivot = replicate 32 0;
+      pivot = replicate maxN 0;
     }
 
 -- the state at the beginning: rtol_min is at least EPSILON, and a Newton limit of 0 is read as 1

@@ -1,5 +1,13 @@
--- The workspace: the Rust's vectors one after the other in one list. The Jacobian (n * n) and the matrix to be factored
--- (n * n) come first, by rows; then 33 rows of n. Each area is named by its first row, in the Rust's words.
+-- The workspace: the Rust's vectors one after the other in one list, in this order:
+--
+--     jac          n * n, by rows
+--     lu_matrix    n * n, by rows: the matrix to be factored, then its factors
+--     33 rows of n, each area named by its first row, in the Rust's words:
+--         0 to 7   D                    14  psi            18  delta    22  f1 of hinit
+--         8 to 13  scratch_change       15  scale          19  rhs      23  y1 of hinit
+--                                       16  y_predict      20  y        24  rtol
+--                                       17  y_new          21  f0       25  atol
+--         26 to 32 cont, the coefficients: 7 for each component in turn
 use mathlib.Core.List.{List}
 use Prim.Native.Nat.{ℕ, _+_, _*_}
 use lib.ListN.{getD, set}
@@ -9,6 +17,11 @@ use Rattle.loops.specs.Part.{part}
 -- D[k] is row k, for k from 0 to 7
 abbrev pub d : ℕ → ℕ
 d k = k
+
+-- the Rust's scratch_change, six rows in which rescaling makes its new rows. Here they are set to 0 at the beginning and not used:
+-- the new rows are made in an array of their own, since two parts of one slice cannot be lent at once
+abbrev pub scratchChange : ℕ
+scratchChange = 8
 
 abbrev pub psi : ℕ
 psi = 14

@@ -16,7 +16,7 @@ use Rattle.rules.specs.Moves.{copied, filled, loaded}
 use Rattle.rules.specs.State.{withPace, withX, withOrder, changed, turn, ode+1, jac+1, After, after, Left, left}
 use Rattle.rules.specs.Starting.{guess, euler, hinit, withinSpan}
 use Rattle.rules.specs.Order.{errM, errP, choiceOf}
-use Rattle.rules.specs.Attempt.{rescaledD, told, end, halved, mainLoop}
+use Rattle.rules.specs.Attempt.{rescaledD, told, end, halved, onward, mainLoop}
 use Rattle.rules.specs.Step.{newtonReplied}
 use Rattle.rules.specs.declared.stages.Choice.{Choice}
 
@@ -119,7 +119,7 @@ stepped p ws q =
 unfoldable pub newtonTurn : Progress → List Float → List Float → List Float → After Turn
 newtonTurn p values ws q =
     let a = newtonReplied p values ws q in
-    if a .is .again then mainLoop (a .is .turn .run .at) (a .ws) (a .q) else after (a .is .turn) (a .ws) (a .q)
+    onward mainLoop (a .is) (a .ws) (a .q)
 
 -- Newton failed: the new Jacobian, then half the step
 unfoldable pub failedTurn : Progress → List Float → List Float → List Float → After Turn
@@ -144,7 +144,8 @@ stepJacobian p values ws q = let j = jacobianStored p values ws in stepped (outd
 unfoldable pub orderJacobian : Progress → List Float → List Float → List Float → After Turn
 orderJacobian p values ws q = let j = jacobianStored p values ws in mainLoop (j .is) (j .ws) q
 
--- a notice's reply. Values alone do not suit a notice: refused before
+-- A notice's reply. The last case cannot be met: values alone do not suit a notice, so such a reply was refused (11) before it
+-- could come here. It stands because a definition covers every reply, and is taken as Continue.
 abbrev pub startNoticed : Progress → Reply → List Float → List Float → List Float → After Turn
 startNoticed p Continue values ws q = mainLoop p ws q
 startNoticed p Interrupt values ws q = after (end UserInterrupt p) ws q
@@ -157,6 +158,7 @@ stepNoticed p Interrupt values ws q = after (end UserInterrupt p) ws q
 stepNoticed p (Modified x) values ws q = modified ModifiedStepDerivative p x values ws q
 stepNoticed p Values values ws q = stepped p ws q
 
+-- By the place. The last case cannot be met: a run that has ended was refused (10) before.
 abbrev pub replied : Awaited → Progress → Reply → List Float → List Float → List Float → After Turn
 replied FirstDerivative p r values ws q = firstDerivative p values ws q
 replied FirstJacobian p r values ws q = firstJacobian p values ws q

@@ -8,9 +8,10 @@ use lib.Ieee.{Float}
 use lib.ListN.{set, replicate}
 use Rattle.loops.specs.Choice.{if_then_else_}
 use Rattle.loops.specs.Loop.{loop}
-use Rattle.loops.specs.Cell.{at, cell, stored}
+use Rattle.loops.specs.Cell.{cell, stored}
 use Rattle.loops.specs.Arithmetic.{_⊕_, _⊖_, _⊗_, _⊘_, float, +0, one}
 use Rattle.matrix.specs.Size.{maxN}
+use Rattle.rules.specs.Moves.{loaded}
 use Rattle.rules.specs.Tables.{maxOrder}
 
 -- `vec![vec![0.0; size]; size]`
@@ -83,14 +84,11 @@ unfoldable pub newRows : ℕ → List Float → List Float → ℕ → List Floa
 newRows n ru d size = loop 0 size (newRow n ru d size) (replicate (6 * maxN) +0)
 
 -- d[i] = scratch[i] for each row i up to the order, which are the first size * n places; the rows above stay
-unfoldable pub copied : List Float → ℕ → List Float → List Float
-copied scratch places d = loop 0 places (λ j d. set d j (at scratch j)) d
-
 unfoldable pub rescaled : ℕ → ℕ → Float → List Float → List Float
 rescaled n order factor d =
     let size = order + 1 in
     let ru = matmul (computeR order factor) (computeR order one) size in
-    copied (newRows n ru d size) (size * n) d
+    loaded (newRows n ru d size) 0 0 (size * n) d
 
 -- a factor of exactly 1.0 changes nothing
 unfoldable pub changeD : ℕ → ℕ → Float → List Float → List Float

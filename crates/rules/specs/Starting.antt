@@ -3,16 +3,14 @@ use mathlib.Core.List.{List}
 use mathlib.Core.Bool.{_||_}
 use Prim.Native.Nat.{ℕ}
 use lib.Ieee as Ieee
-use lib.Ieee.{Float, binary64}
+use lib.Ieee.{Float}
 use Rattle.loops.specs.Choice.{if_then_else_}
 use Rattle.loops.specs.Loop.{loop}
 use Rattle.number.specs.Helpers.{absOf, signumOf, minOf, maxOf}
 use Rattle.roots.specs.Roots.{sqrtOf}
 use Rattle.loops.specs.Arithmetic.{_⊕_, _⊖_, _⊗_, _⊘_, +0}
+use Rattle.rules.specs.Literals.{hundred, hundredth, milli, micro, tenthOfNano, femto}
 use Rattle.rules.specs.Places.{y, f0, f1, y1, rtol, atol, get, put}
-
-abbrev lit : ℕ → Float
-lit = Ieee.ofBits binary64
 
 -- sk = atol[i] + rtol[i] * y[i].abs()
 abbrev pub sk : ℕ → List Float → ℕ → Float
@@ -28,9 +26,9 @@ squares n v ws = loop 0 n (squaresTurn n v ws) +0
 -- 1e-6 where a sum is at most 1e-10, else a hundredth of the quotient's root
 unfoldable pub rawGuess : Float → Float → Float
 rawGuess dnf dny =
-    if (Ieee.le dnf (lit 0x3ddb_7cdf_d9d7_bdbb) || Ieee.le dny (lit 0x3ddb_7cdf_d9d7_bdbb))
-    then lit 0x3eb0_c6f7_a0b5_ed8d
-    else sqrtOf (dny ⊘ dnf) ⊗ lit 0x3f84_7ae1_47ae_147b
+    if (Ieee.le dnf tenthOfNano || Ieee.le dny tenthOfNano)
+    then micro
+    else sqrtOf (dny ⊘ dnf) ⊗ hundredth
 
 -- the first guess: at most hmax, with the sign
 unfoldable pub firstGuess : Float → Float → Float → Float → Float
@@ -60,16 +58,16 @@ second n ws = loop 0 n (secondTurn n ws) +0
 -- a power of 1 / iord with iord 1 is the number itself
 unfoldable pub h1 : Float → Float → Float
 h1 der12 size =
-    if Ieee.le der12 (lit 0x3cd2_03af_9ee7_5616)
-    then maxOf (lit 0x3eb0_c6f7_a0b5_ed8d) (size ⊗ lit 0x3f50_624d_d2f1_a9fc)
-    else lit 0x3f84_7ae1_47ae_147b ⊘ der12
+    if Ieee.le der12 femto
+    then maxOf micro (size ⊗ milli)
+    else hundredth ⊘ der12
 
 -- from the second derivative to the step: at most |h|, 100 |h|, h1 and hmax, with the sign
 unfoldable pub finalGuess : Float → Float → Float → Float → Float → Float
 finalGuess sum dnf h hmax posneg =
     let der2 = sqrtOf sum ⊘ absOf h in
     let der12 = maxOf (absOf der2) (sqrtOf dnf) in
-    let hFinal = minOf (minOf (minOf (absOf h) (lit 0x4059_0000_0000_0000 ⊗ absOf h)) (h1 der12 (absOf h))) (absOf hmax) in
+    let hFinal = minOf (minOf (minOf (absOf h) (hundred ⊗ absOf h)) (h1 der12 (absOf h))) (absOf hmax) in
     absOf hFinal ⊗ signumOf posneg
 
 -- hinit's answer, once f1 is known

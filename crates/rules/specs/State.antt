@@ -5,47 +5,129 @@ use Prim.Native.Nat.{ℕ, _+_}
 use lib.Ieee.{Float}
 use Rattle.rules.specs.Types.{Evals, Steps, Pace, Aim, Newton, Progress, Turn, Answer, Awaited}
 
--- all that can change
-abbrev pub with : Progress → Evals → Steps → ℕ → Float → Pace → Aim → Float → Newton → List ℕ → Progress
-with p evals steps order x pace aim c newton pivot =
+-- ---- one group another
+
+abbrev pub withEvals : Progress → Evals → Progress
+withEvals p evals =
     record {
       n = p .n;
       limits = p .limits;
       span = p .span;
       evals = evals;
-      steps = steps;
-      order = order;
-      x = x;
-      pace = pace;
-      aim = aim;
-      «current_c» = c;
-      newton = newton;
-      pivot = pivot;
+      steps = p .steps;
+      order = p .order;
+      x = p .x;
+      pace = p .pace;
+      aim = p .aim;
+      «current_c» = p .«current_c»;
+      newton = p .newton;
+      pivot = p .pivot;
     }
 
-abbrev pub withEvals : Progress → Evals → Progress
-withEvals p e = with p e (p .steps) (p .order) (p .x) (p .pace) (p .aim) (p .«current_c») (p .newton) (p .pivot)
-
 abbrev pub withSteps : Progress → Steps → Progress
-withSteps p s = with p (p .evals) s (p .order) (p .x) (p .pace) (p .aim) (p .«current_c») (p .newton) (p .pivot)
+withSteps p steps =
+    record {
+      n = p .n;
+      limits = p .limits;
+      span = p .span;
+      evals = p .evals;
+      steps = steps;
+      order = p .order;
+      x = p .x;
+      pace = p .pace;
+      aim = p .aim;
+      «current_c» = p .«current_c»;
+      newton = p .newton;
+      pivot = p .pivot;
+    }
 
 abbrev pub withPace : Progress → Pace → Progress
-withPace p g = with p (p .evals) (p .steps) (p .order) (p .x) g (p .aim) (p .«current_c») (p .newton) (p .pivot)
+withPace p pace =
+    record {
+      n = p .n;
+      limits = p .limits;
+      span = p .span;
+      evals = p .evals;
+      steps = p .steps;
+      order = p .order;
+      x = p .x;
+      pace = pace;
+      aim = p .aim;
+      «current_c» = p .«current_c»;
+      newton = p .newton;
+      pivot = p .pivot;
+    }
 
 abbrev pub withAim : Progress → Aim → Progress
-withAim p a = with p (p .evals) (p .steps) (p .order) (p .x) (p .pace) a (p .«current_c») (p .newton) (p .pivot)
+withAim p aim =
+    record {
+      n = p .n;
+      limits = p .limits;
+      span = p .span;
+      evals = p .evals;
+      steps = p .steps;
+      order = p .order;
+      x = p .x;
+      pace = p .pace;
+      aim = aim;
+      «current_c» = p .«current_c»;
+      newton = p .newton;
+      pivot = p .pivot;
+    }
 
 abbrev pub withNewton : Progress → Newton → Progress
-withNewton p g = with p (p .evals) (p .steps) (p .order) (p .x) (p .pace) (p .aim) (p .«current_c») g (p .pivot)
+withNewton p newton =
+    record {
+      n = p .n;
+      limits = p .limits;
+      span = p .span;
+      evals = p .evals;
+      steps = p .steps;
+      order = p .order;
+      x = p .x;
+      pace = p .pace;
+      aim = p .aim;
+      «current_c» = p .«current_c»;
+      newton = newton;
+      pivot = p .pivot;
+    }
 
 -- at another x and order
 abbrev pub withX : Progress → Float → Progress
-withX p x = with p (p .evals) (p .steps) (p .order) x (p .pace) (p .aim) (p .«current_c») (p .newton) (p .pivot)
+withX p x =
+    record {
+      n = p .n;
+      limits = p .limits;
+      span = p .span;
+      evals = p .evals;
+      steps = p .steps;
+      order = p .order;
+      x = x;
+      pace = p .pace;
+      aim = p .aim;
+      «current_c» = p .«current_c»;
+      newton = p .newton;
+      pivot = p .pivot;
+    }
 
 abbrev pub withOrder : Progress → ℕ → Progress
-withOrder p o = with p (p .evals) (p .steps) o (p .x) (p .pace) (p .aim) (p .«current_c») (p .newton) (p .pivot)
+withOrder p order =
+    record {
+      n = p .n;
+      limits = p .limits;
+      span = p .span;
+      evals = p .evals;
+      steps = p .steps;
+      order = order;
+      x = p .x;
+      pace = p .pace;
+      aim = p .aim;
+      «current_c» = p .«current_c»;
+      newton = p .newton;
+      pivot = p .pivot;
+    }
 
--- the counters
+-- ---- the counters
 abbrev pub ode+1 : Progress → Progress
 ode+1 p = withEvals p (record { ode = p .evals .ode + 1; jac = p .evals .jac; lu = p .evals .lu })
 

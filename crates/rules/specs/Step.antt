@@ -15,13 +15,12 @@ use Rattle.rules.specs.Literals.{minFactor}
 use Rattle.rules.specs.Tables.{errorConsts}
 use Rattle.rules.specs.Places.{delta, y, yNew, yPredict, cont, row}
 use Rattle.rules.specs.Moves.{loaded}
-use Rattle.rules.specs.State.{with, withPace, withNewton, turn, ode+1, accepted+1, rejected+1, After, after, Left, left}
+use Rattle.rules.specs.State.{withPace, withNewton, turn, ode+1, accepted+1, rejected+1, After, after, Left, left}
 use Rattle.rules.specs.Predict.{scaled}
 use Rattle.rules.specs.Newton.{correction, advanced, converged, gaveUp}
 use Rattle.rules.specs.Norm.{rhsNorm}
 use Rattle.rules.specs.Judge.{safetyOf, weighed, acceptedWs}
-use Rattle.rules.specs.Attempt.{rescaledD, told, again, says}
-use Rattle.rules.specs.declared.stages.Tried.{Tried}
+use Rattle.rules.specs.Attempt.{rescaledD, told, Tried, rejected, says}
 
 -- ---- the judgement of a step
 
@@ -30,16 +29,25 @@ unfoldable pub errorRejected : Progress → Float → Float → List Float → L
 errorRejected p safety norm ws =
     let factor = maxOf (safety ⊗ inverseRoot (p .order + 1) norm) minFactor in
     let pace : Pace = record { h = p .pace .h ⊗ factor; «equal_steps» = 0; «lu_is_current» = p .pace .«lu_is_current» } in
-    left (again (rejected+1 (withPace p pace))) (rescaledD (p .n) (p .order) factor ws)
+    left (rejected (rejected+1 (withPace p pace))) (rescaledD (p .n) (p .order) factor ws)
 
 -- x = x_new, one equal step more; safety and the error's norm stay for the choice of order
 abbrev pub acceptedFrom : Progress → Float → Float → Progress
 acceptedFrom p safety norm =
-    with p (p .evals) (accepted+1 p .steps) (p .order) (p .aim .«x_new»)
-    (record { h = p .pace .h; «equal_steps» = p .pace .«equal_steps» + 1; «lu_is_current» = p .pace .«lu_is_current» })
-    (p .aim) (p .«current_c»)
-    (record { iters = p .newton .iters; prev = p .newton .prev; safety = safety; «error_norm» = norm })
-    (p .pivot)
+    record {
+      n = p .n;
+      limits = p .limits;
+      span = p .span;
+      evals = p .evals;
+      steps = accepted+1 p .steps;
+      order = p .order;
+      x = p .aim .«x_new»;
+      pace = record { h = p .pace .h; «equal_steps» = p .pace .«equal_steps» + 1; «lu_is_current» = p .pace .«lu_is_current» };
+      aim = p .aim;
+      «current_c» = p .«current_c»;
+      newton = record { iters = p .newton .iters; prev = p .newton .prev; safety = safety; «error_norm» = norm };
+      pivot = p .pivot;
+    }
 
 -- the notice: the reported old x is x - h_signed, the interpolant's start is x_start; y, then the coefficients
 unfoldable pub stepAccepted : Progress → Float → Float → List Float → List Float → After Tried

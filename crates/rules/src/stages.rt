@@ -2,7 +2,7 @@
 use crate::types::Aim;
 use crate::types::Pace;
 use crate::types::Refusal;
-use crate::types::Turn;
+use matrix::MAX_N;
 
 // What the checks say.
 pub enum Check {
@@ -25,13 +25,7 @@ pub enum Aimed {
 // A factoring's pivots, and whether the matrix was regular.
 pub struct Factors {
     pub ok: bool,
-    pub pivot: [usize; 32],
-}
-
-// What an attempt came to: rejected, so that the next is tried from the state in `turn`, or a turn.
-pub struct Tried {
-    pub again: bool,
-    pub turn: Turn,
+    pub pivot: [usize; MAX_N],
 }
 
 // The order of the next steps, and what their size is multiplied by.

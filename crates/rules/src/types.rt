@@ -1,4 +1,5 @@
 // What goes in and what comes back: the settings, the questions and replies, and the state of a run.
+use matrix::MAX_N;
 
 // A setting that the Rust holds as an Option<Float>.
 pub enum Setting {
@@ -154,7 +155,7 @@ pub struct Progress {
     pub aim: Aim,
     pub current_c: f64,
     pub newton: Newton,
-    pub pivot: [usize; 32],
+    pub pivot: [usize; MAX_N],
 }
 
 // A run's state: it goes into every call by value and comes back.

@@ -18,6 +18,11 @@ pub when-false : {A : Type 0} {b : Bool} (x y : A) → b ≡ false → (if b the
 unfolding if_then_else_
 when-false x y t = rw t
 
+-- a test that cannot pass fails
+pub false-unless : (b : Bool) → (b ≡ true → ⊥) → b ≡ false
+false-unless true f = absurd (f refl)
+false-unless false f = refl
+
 -- a row of tests joined by `&&` fails where its second half fails whenever its first half passed
 pub and-fails : (b : Bool) {c : Bool} → (b ≡ true → c ≡ false) → (b && c) ≡ false
 and-fails true f = f refl

@@ -14,7 +14,7 @@ use lib.Seq.{getD-set-same, getD-set-other}
 use lib.Ieee as Ieee
 use lib.Ieee.{Float}
 use Rattle.loops.specs.Cell.{cell}
-use Rattle.loops.specs.laws.ChoiceLaws.{either, and-first, and-second}
+use Rattle.loops.specs.laws.ChoiceLaws.{either, and-first, and-second, false-unless}
 use Rattle.loops.specs.laws.Order.{loop-keeps}
 use Rattle.loops.specs.Refusal.{Outcome, gives, refuses}
 use Rattle.loops.specs.Loop.{turns, loop}
@@ -23,10 +23,6 @@ use Rattle.number.specs.Helpers.{absOf}
 use Rattle.matrix.specs.Size.{sizedOf}
 use Rattle.matrix.specs.Lu.{LuOutcome, pivotTurn, pivotOf, stageOf, lastOf, stagesOf, singleOf, lu_decompOf}
 use Rattle.matrix.specs.Linear.{row, insideTurn, insideOf, Inside}
-
-not-true : (b : Bool) → (b ≡ true → ⊥) → b ≡ false
-not-true true f = absurd (f refl)
-not-true false f = refl
 
 within : (n : ℕ) (ip : List ℕ) (m : ℕ) → turns 0 (insideTurn n ip) m true ≡ true → (k : ℕ) → k < m → row ip k < n
 unfolding turns insideTurn
@@ -43,7 +39,7 @@ each-inside n ip t k h = within n ip (n - 1) (rw sub-zero at t) k h
 
 -- one that does not is enough for the test to fail
 pub one-outside : (n : ℕ) (ip : List ℕ) (k : ℕ) → k < n - 1 → n ≤ row ip k → insideOf n ip ≡ false
-one-outside n ip k h o = not-true (insideOf n ip) (λ t. omega (arith, each-inside n ip t k h))
+one-outside n ip k h o = false-unless (insideOf n ip) (λ t. omega (arith, each-inside n ip t k h))
 
 -- where each names a row, the test passes
 pub means-inside : (n : ℕ) (ip : List ℕ) → Inside n ip → insideOf n ip ≡ true

@@ -16,7 +16,8 @@ use Rattle.matrix.specs.Size.{sizedOf}
 use Rattle.matrix.specs.Magnitude.{magnitudeOf}
 use Rattle.matrix.specs.Lu.{pivotTurn, pivotOf, exchangedOf, scaleTurn, eliminateTurn, columnTurn, stageOf, lastOf, stagesOf, singleOf, lu_decompOf as luDecompOf}
 use Rattle.matrix.specs.Linear.{insideTurn, insideOf, lowerTurn, forwardTurn, dividedOf, upperTurn, backTurn, solvedOf, lin_solveOf as linSolveOf}
-use Rattle.rules.specs.Rescale.{firstRow, mTurn, mRow, mTable, rTurn, rRow, rTable, computeR, scaledTurn, addScaled, productTurn, productRow, matmul, newRowTurn, newRow, newRows, copied, rescaled, changeD}
+use Rattle.rules.specs.Moves.{loadTurn, loaded}
+use Rattle.rules.specs.Rescale.{firstRow, mTurn, mRow, mTable, rTurn, rRow, rTable, computeR, scaledTurn, addScaled, productTurn, productRow, matmul, newRowTurn, newRow, newRows, rescaled, changeD}
 use Rattle.interpolation.specs.Interpolate.{orderOf}
 
 -- a whole number of one binary digit or few, odd * 2 ^ e
@@ -57,7 +58,7 @@ pub record Measured : Type 0 where
   pub mark-nan : orderOf nan ≡ 0
 
 pub measured : Measured
-unfolding if_then_else_ loop turns ofBits ofInt add sub mul div neg eq ne lt isNan sqrtOf inverseRootOf sizedOf absOf magnitudeOf pivotTurn pivotOf exchangedOf scaleTurn eliminateTurn columnTurn stageOf lastOf stagesOf singleOf luDecompOf insideTurn insideOf lowerTurn forwardTurn dividedOf upperTurn backTurn solvedOf linSolveOf firstRow mTurn mRow mTable rTurn rRow rTable computeR scaledTurn addScaled productTurn productRow matmul newRowTurn newRow newRows copied rescaled changeD orderOf
+unfolding if_then_else_ loop turns ofBits ofInt add sub mul div neg eq ne lt isNan sqrtOf inverseRootOf sizedOf absOf magnitudeOf pivotTurn pivotOf exchangedOf scaleTurn eliminateTurn columnTurn stageOf lastOf stagesOf singleOf luDecompOf insideTurn insideOf lowerTurn forwardTurn dividedOf upperTurn backTurn solvedOf linSolveOf firstRow mTurn mRow mTable rTurn rRow rTable computeR scaledTurn addScaled productTurn productRow matmul newRowTurn newRow newRows loadTurn loaded rescaled changeD orderOf
 measured =
     record {
       sqrt-2·25 = refl;

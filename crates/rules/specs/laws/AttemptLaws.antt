@@ -14,9 +14,8 @@ use Rattle.rules.specs.Types.{Progress, Pace, Success, NeedLargerNMax, S
 use Rattle.rules.specs.State.{withPace, changed, After, after, Left, left}
 use Rattle.rules.specs.laws.Moved.{Moved}
 use Rattle.rules.specs.laws.MovedLaws.{moved-on, factoring-spared, stays, pace-moves, aim-moves, newton-moves, total-moves, rejected-moves, factored-moves, singular-moves}
-use Rattle.rules.specs.Attempt.{toHmax, toHmin, fitted, aimed, cutAtEnd, halved, newtonStart, refactored, attemptAt, guarded, headed, fittedAttempt, attempt, says, end}
-use Rattle.rules.specs.laws.Said.{Cause, Said, ends, asks, Rejected, Tries, rejects, speaks}
-use Rattle.rules.specs.declared.stages.Tried.{Tried}
+use Rattle.rules.specs.Attempt.{toHmax, toHmin, fitted, aimed, cutAtEnd, halved, newtonStart, refactored, attemptAt, guarded, headed, fittedAttempt, attempt, Tried, says, end}
+use Rattle.rules.specs.laws.Said.{Cause, ends, asks, Tries}
 use Rattle.rules.specs.declared.stages.Aimed.{Aimed}
 use Rattle.rules.specs.declared.stages.Aimed.the-variants.{At, AtEnd}
 
@@ -47,7 +46,7 @@ aimed-tells p ws =
 module _ (p : Progress) (had : p .steps .total < p .limits .steps) where
   newton-start-asks : {r : Progress} (ws q : List Float) → Moved p r 0 0 1 1 0 0 (p .order) → Tries p (newtonStart r ws q .is)
   unfolding newtonStart
-  newton-start-asks {r} ws q m = speaks refl (asks {k = 0} refl refl (omega arith) (moved-on m (newton-moves r _)))
+  newton-start-asks {r} ws q m = (asks {k = 0} refl refl (omega arith) (moved-on m (newton-moves r _)))
 
   refactored-tries : {r : Progress} (ws q : List Float) → Moved p r 0 0 0 1 0 0 (p .order) → Tries p (refactored r ws q .is)
   unfolding refactored halved
@@ -55,7 +54,7 @@ module _ (p : Progress) (had : p .steps .total < p .limits .steps) where
       either (λ (a : After Tried). Tries p (a .is)) _
       (λ _. newton-start-asks _ _ (moved-on m (factored-moves r ws)))
       (λ _. let moved = moved-on (moved-on (moved-on m (singular-moves r ws)) (pace-moves _ (omega arith))) (rejected-moves _) in
-      rejects refl (record { had = had; moved = moved }))
+      record { had = had; moved = moved })
 
   attempt-at-tries : {r : Progress} (ws q : List Float) → Moved p r 0 0 0 1 0 0 (p .order) → Tries p (attemptAt r ws q .is)
   unfolding attemptAt
@@ -66,11 +65,11 @@ module _ (p : Progress) (had : p .steps .total < p .limits .steps) where
   unfolding guarded
   guarded-tries {r} ws q m =
       either (λ (a : After Tried). Tries p (a .is)) _
-      (λ e. speaks refl (ends {k = 0} StepSizeTooSmall refl (inr e) (omega arith) m))
+      (λ e. (ends {k = 0} StepSizeTooSmall refl (inr e) (omega arith) m))
       (λ _. attempt-at-tries _ _ (moved-on m (total-moves r)))
 
   headed-tries : {r : Progress} (a : Aimed) (ws q : List Float) → Moved p r 0 0 0 0 0 0 (p .order) → AimTells r a → Tries p (headed r a ws q .is)
-  headed-tries AtEnd ws q m e = speaks refl (ends {k = 0} Success refl e (omega arith) m)
+  headed-tries AtEnd ws q m e = (ends {k = 0} Success refl e (omega arith) m)
   headed-tries {r} (At g a) ws q m e = guarded-tries ws q (moved-on (moved-on m (pace-moves r e)) (aim-moves (withPace r g) a))
 
   fitted-attempt-tries : (ws q : List Float) → Tries p (fittedAttempt p ws q .is)
@@ -92,26 +91,7 @@ pub attempt-tries : (p : Progress) (ws q : List Float) → p .steps .total ≤ p
 unfolding attempt
 attempt-tries p ws q h =
     either (λ (a : After Tried). Tries p (a .is)) _
-    (λ e. speaks refl (ends {k = 0} NeedLargerNMax refl (omega (arith, leb-true)) h (stays p)))
+    (λ e. (ends {k = 0} NeedLargerNMax refl (omega (arith, leb-true)) h (stays p)))
     (λ e. either (λ (a : After Tried). Tries p (a .is)) _
-    (λ small. speaks refl (ends {k = 0} StepSizeTooSmall refl (inl small) h (stays p)))
+    (λ small. (ends {k = 0} StepSizeTooSmall refl (inl small) h (stays p)))
     (λ _. fitted-attempt-tries p (omega (arith, leb-false)) ws q))
-
--- where it asks for another, it was rejected; where not, it says something
-pub attempt-again :
-    (p : Progress) (ws q : List Float) → p .steps .total ≤ p .limits .steps → attempt p ws q .is .again ≡ true →
-    Rejected p (attempt p ws q .is .turn .run .at)
-attempt-again p ws q h t = was-rejected (attempt-tries p ws q h) t
-  where
-    was-rejected : {p : Progress} {a : Tried} → Tries p a → a .again ≡ true → Rejected p (a .turn .run .at)
-    was-rejected (rejects e r) t = r
-    was-rejected (speaks e s) t = absurd (true≢false (sym t ∙ e))
-
-pub attempt-says :
-    (p : Progress) (ws q : List Float) → p .steps .total ≤ p .limits .steps → attempt p ws q .is .again ≡ false →
-    Said p (attempt p ws q .is .turn)
-attempt-says p ws q h f = has-said (attempt-tries p ws q h) f
-  where
-    has-said : {p : Progress} {a : Tried} → Tries p a → a .again ≡ false → Said p (a .turn)
-    has-said (rejects e r) f = absurd (true≢false (sym e ∙ f))
-    has-said (speaks e s) f = s

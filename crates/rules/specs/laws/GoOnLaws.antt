@@ -10,6 +10,7 @@ use lib.ListN.{length}
 use lib.Ieee.{Float}
 use borrow.Author.Tests.{ltb-false, eqb-false, le-ltb}
 use Rattle.loops.specs.Choice.{if_then_else_}
+use Rattle.loops.specs.laws.ChoiceLaws.{false-unless}
 use Rattle.rules.specs.Types.{Awaited, Reply, Progress, HasEnded}
 use Rattle.matrix.specs.Size.{maxN}
 use Rattle.rules.specs.Places.{need}
@@ -24,10 +25,6 @@ use Rattle.rules.specs.declared.stages.Wants.the-variants.{Count, Unsuit
 use Rattle.rules.specs.declared.stages.Check.the-variants.{Refuse, Passed}
 
 -- ---- the state
-
-false-unless : (b : Bool) → (b ≡ true → ⊥) → b ≡ false
-false-unless true f = absurd (f refl)
-false-unless false f = refl
 
 -- what `if many then true else if none then x else y` says where it is false
 undamaged : (b c x y : Bool) → (if b then true else if c then x else y) ≡ false → (b ≡ false) × (c ≡ true → x ≡ false) × (c ≡ false → y ≡ false)

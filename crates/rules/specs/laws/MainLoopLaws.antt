@@ -1,23 +1,19 @@
 -- What the main loop says, whatever the floats are, and its one turn: an attempt, and the same again where it was rejected.
 use mathlib.Core.Path.{_≡_, refl, sym, ap, _∙_}
 use mathlib.Core.List.{List}
-use mathlib.Core.Bool.{true}
 use Prim.Native.Nat.{ℕ, zero, suc, _-_, _≤_, _<_}
 use native.Mathlib.Numerals.{add-one}
 use native.Mathlib.Omega.{arith}
 use lib.ListN.{length}
 use lib.Ieee.{Float}
-use Rattle.loops.specs.Choice.{if_then_else_}
-use Rattle.loops.specs.laws.ChoiceLaws.{either, when-true, when-false}
 use Rattle.rules.specs.Types.{Progress, Turn}
 use Rattle.rules.specs.State.{After, after}
 use Rattle.rules.specs.laws.Ready.{Sane, Ready}
 use Rattle.rules.specs.laws.ReadyLaws.{room-kept}
 use Rattle.rules.specs.laws.MovedLaws.{moved-on}
-use Rattle.rules.specs.Attempt.{attempt, tries, attemptsLeft, mainLoop}
-use Rattle.rules.specs.laws.Said.{Said, ends, asks, Rejected}
-use Rattle.rules.specs.laws.AttemptLaws.{attempt-again, attempt-says}
-use Rattle.rules.specs.declared.stages.Tried.{Tried}
+use Rattle.rules.specs.Attempt.{attempt, Tried, rejected, says, onward, tries, attemptsLeft, mainLoop}
+use Rattle.rules.specs.laws.Said.{Said, ends, asks, Rejected, Tries}
+use Rattle.rules.specs.laws.AttemptLaws.{attempt-tries}
 
 -- ---- what it says
 
@@ -25,13 +21,18 @@ said-later : {p r : Progress} {t : Turn} → Rejected p r → Said r t → Said 
 said-later j (ends s e cause within m) = ends s e cause (omega arith) (moved-on (j .moved) m)
 said-later j (asks e fresh within m) = asks e fresh (omega arith) (moved-on (j .moved) m)
 
+onward-says :
+    {p : Progress} (more : Progress → List Float → List Float → After Turn) (a : Tried) (ws q : List Float) → Tries p a →
+    ((r : Progress) → Rejected p r → Said r (more r ws q .is)) → Said p (onward more a ws q .is)
+onward-says more (rejected r) ws q j further = said-later j (further r j)
+onward-says more (says t) ws q s further = s
+
 tries-says : (k : ℕ) (p : Progress) (ws q : List Float) → p .steps .total ≤ p .limits .steps → attemptsLeft p ≡ k → Said p (tries k p ws q .is)
 unfolding tries
 tries-says zero p ws q h e = absurd (omega arith)
 tries-says (suc k) p ws q h e =
-    either (λ (a : After Turn). Said p (a .is)) _
-    (λ t. let j = attempt-again p ws q h t in said-later j (tries-says k _ _ _ (omega arith) (omega arith)))
-    (λ f. attempt-says p ws q h f)
+    let a = attempt p ws q in
+    onward-says (tries k) (a .is) (a .ws) (a .q) (attempt-tries p ws q h) (λ r j. tries-says k r (a .ws) (a .q) (omega arith) (omega arith))
 
 pub main-loop-says : (p : Progress) (ws q : List Float) → p .steps .total ≤ p .limits .steps → Said p (mainLoop p ws q .is)
 unfolding mainLoop
@@ -41,31 +42,37 @@ main-loop-says p ws q h = tries-says _ p ws q h refl
 
 -- what an attempt leaves to do: the loop again, or nothing
 abbrev pub rest : Tried → List Float → List Float → After Turn
-rest t ws q = if t .again then mainLoop (t .turn .run .at) ws q else after (t .turn) ws q
+rest t ws q = onward mainLoop t ws q
 
 -- and how many attempts that can be
 abbrev pub attemptsIn : Tried → ℕ
-attemptsIn t = if t .again then attemptsLeft (t .turn .run .at) else 0
+attemptsIn (rejected r) = attemptsLeft r
+attemptsIn (says t) = 0
 
-module _ (p : Progress) (ws q : List Float) (h : p .steps .total ≤ p .limits .steps) where
-  pub main-loop-turn : mainLoop p ws q ≡ rest (attempt p ws q .is) (attempt p ws q .ws) (attempt p ws q .q)
-  unfolding mainLoop tries
-  main-loop-turn =
-      let a = attempt p ws q in
-      let more = mainLoop (a .is .turn .run .at) (a .ws) (a .q) in
-      let said = after (a .is .turn) (a .ws) (a .q) in
-      rw (add-one (p .limits .steps - p .steps .total))
-      (either (λ (b : After Turn). b ≡ rest (a .is) (a .ws) (a .q)) _
-      (λ t. let j = attempt-again p ws q h t in
-      let left : p .limits .steps - p .steps .total ≡ attemptsLeft (a .is .turn .run .at) = omega arith in
-      ap (λ (k : ℕ). tries k (a .is .turn .run .at) (a .ws) (a .q)) left ∙ sym (when-true more said t))
-      (λ f. sym (when-false more said f)))
+module _ (p : Progress) where
+  -- after a rejected attempt one fewer is left, which is what the loop counts anew
+  as-many-left :
+      (k : ℕ) (a : Tried) (ws q : List Float) → Tries p a → p .limits .steps - p .steps .total ≡ k → onward (tries k) a ws q ≡ rest a ws q
+  unfolding mainLoop
+  as-many-left k (rejected r) ws q j e =
+      let left : k ≡ attemptsLeft r = omega arith in
+      ap (λ (k : ℕ). tries k r ws q) left
+  as-many-left k (says t) ws q s e = refl
 
-  pub fewer-left : attemptsIn (attempt p ws q .is) < attemptsLeft p
-  fewer-left =
-      either (λ (k : ℕ). k < attemptsLeft p) _
-      (λ t. let j = attempt-again p ws q h t in omega arith)
-      (λ f. omega arith)
+  fewer-in : (a : Tried) → Tries p a → attemptsIn a < attemptsLeft p
+  fewer-in (rejected r) j = omega arith
+  fewer-in (says t) s = omega arith
+
+  module _ (ws q : List Float) (h : p .steps .total ≤ p .limits .steps) where
+    pub main-loop-turn : mainLoop p ws q ≡ rest (attempt p ws q .is) (attempt p ws q .ws) (attempt p ws q .q)
+    unfolding mainLoop tries
+    main-loop-turn =
+        let a = attempt p ws q in
+        rw (add-one (p .limits .steps - p .steps .total))
+        (as-many-left (p .limits .steps - p .steps .total) (a .is) (a .ws) (a .q) (attempt-tries p ws q h) refl)
+
+    pub fewer-left : attemptsIn (attempt p ws q .is) < attemptsLeft p
+    fewer-left = fewer-in (attempt p ws q .is) (attempt-tries p ws q h)
 
 -- a rejected attempt leaves what the next one asks: the state's own numbers, and room where the slices kept their lengths
 pub sane-again : {p r : Progress} → Sane p → Rejected p r → Sane r
@@ -88,8 +95,7 @@ module _ {p : Progress} {ws q v u : List Float} {a : Tried} (i : Ready p ws q) (
   pub fewer-after : attemptsIn a < attemptsLeft p
   fewer-after = rw (← e) at (fewer-left p ws q (i .sane .counted))
 
-  pub ready-after : length v ≡ length ws → length u ≡ length q → a .again ≡ true → Ready (a .turn .run .at) v u
-  ready-after f g t =
-      let again : attempt p ws q .is .again ≡ true = rw (← e) t in
-      let j : Rejected p (a .turn .run .at) = rw (← e) at (attempt-again p ws q (i .sane .counted) again) in
+  pub ready-after : {r : Progress} → a ≡ rejected r → length v ≡ length ws → length u ≡ length q → Ready r v u
+  ready-after {r} again f g =
+      let j : Rejected p r = rw again at (rw (← e) at (attempt-tries p ws q (i .sane .counted))) in
       ready-again i j f g

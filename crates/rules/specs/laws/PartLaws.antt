@@ -1,15 +1,18 @@
 -- What loading the places of another list makes of a list, said by parts of the two: the places that were loaded are the
 -- other list's, and the others stay.
-use mathlib.Core.Path.{_≡_, _∙_}
+use mathlib.Core.Path.{_≡_, refl, _∙_}
 use mathlib.Core.List.{List, [], append-assoc, append-nil}
 use Prim.Native.Nat.{ℕ, zero, suc, _+_, _≤_, _<_}
+use native.Mathlib.Nat.{zero-add}
 use native.Mathlib.Numerals.{add-one}
 use native.Mathlib.Omega.{arith}
-use lib.ListN.{length, take, drop, length-drop, drop-of-length-le}
+use lib.ListN.{length, take, drop, set, length-drop, drop-of-length-le}
 use lib.Seq.{paste, paste-zero, paste-suc, getD-drop, drop-drop, take-all}
 use lib.Ieee.{Float, nan}
 use Rattle.loops.specs.Loop.{loop}
+use Rattle.loops.specs.Cell.{at}
 use Rattle.loops.specs.laws.Turned.{loop-none, loop-more}
+use Rattle.loops.specs.laws.Order.{loop-same}
 use Rattle.loops.specs.Part.{part, over}
 use Rattle.rules.specs.Moves.{loadTurn, loaded}
 
@@ -48,3 +51,9 @@ pub loaded-part :
 loaded-part values to n l hv hl =
     let whole : take n values ≡ values = take-all n values (omega arith) in
     rw (loaded-over values 0 to n l (omega arith) hl, whole)
+
+-- from first place to first place, it is each place stored in turn
+pub loaded-front : (values : List Float) (n : ℕ) (l : List Float) → loaded values 0 0 n l ≡ loop 0 n (λ i t. set t i (at values i)) l
+unfolding loaded loadTurn
+loaded-front values n l =
+    loop-same (λ _. Unit) 0 n (loadTurn values 0 0) (λ i t. set t i (at values i)) l (λ i t _ _ _. (rw (zero-add i) refl, tt)) tt .0

@@ -13,7 +13,7 @@ use Rattle.rules.specs.Types.{Progress, Awaited, Answer, Turn, Reply, Se
 use Rattle.rules.specs.State.{ode+1, jac+1, After, after}
 use Rattle.rules.specs.Newton.{tooSlow, gaveUp}
 use Rattle.rules.specs.laws.OrderLaws.{choice-within}
-use Rattle.rules.specs.Attempt.{halved, mainLoop}
+use Rattle.rules.specs.Attempt.{halved, Tried, rejected, says, onward, mainLoop}
 use Rattle.rules.specs.Step.{errorRejected, stepAccepted, judged, newtonFailed, newtonAgain, iterated, newtonReplied}
 use Rattle.rules.specs.Reply.{jacobianStored, started, hinitAsks, firstStep, hinitReplied, modified, restarted, outdated, chosen, ordered, stepped, newtonTurn, failedTurn, firstDerivative, firstJacobian, restartJacobian, stepJacobian, orderJacobian, startNoticed, stepNoticed, replied}
 use Rattle.rules.specs.laws.PassedLaws.{or-second}
@@ -21,7 +21,6 @@ use Rattle.rules.specs.Calls.{Configuration}
 use Rattle.rules.specs.laws.HistoryLaws.{hidden-early, hidden-given, hidden-asked}
 use Rattle.rules.specs.laws.Standing.{here, still, Stands, Stays, Next}
 use Rattle.rules.specs.laws.StandingLaws.{stays-with, derivative-asked, jacobian-asked, start-told, step-told, end-told, next-later, loop-next}
-use Rattle.rules.specs.declared.stages.Tried.{Tried}
 use Rattle.rules.specs.declared.stages.Choice.{Choice}
 
 module _ (c : Configuration) where
@@ -157,9 +156,9 @@ module _ (c : Configuration) where
   -- ---- Newton's iteration
 
   -- what an attempt under way comes to: it is rejected, and the main loop takes its state; or it says something
-  data Comes (p : Progress) (h : List Answer) (a : Tried) : Type 0 where
-    back : a .again ≡ true → Stays p (a .turn .run .at) → Stands c (still (a .turn .run .at)) (a .turn .run .at) h → Comes p h a
-    says : a .again ≡ false → Next c p h (a .turn .answer) (a .turn .run .awaited) (a .turn .run .at) → Comes p h a
+  abbrev Comes : Progress → List Answer → Tried → Type 0
+  Comes p h (rejected r) = Stays p r × Stands c (still r) r h
+  Comes p h (says t) = Next c p h (t .answer) (t .run .awaited) (t .run .at)
 
   -- another iteration is asked for only where the limit allows one more
   not-given-up : (tol : Float) (m iters : ℕ) (prev norm : Float) → gaveUp tol m iters prev norm ≡ false → iters + 1 < m
@@ -174,8 +173,8 @@ module _ (c : Configuration) where
     unfolding judged errorRejected stepAccepted
     judged-comes ws q =
         either (λ (a : After Tried). Comes p h (a .is)) _
-        (λ _. back refl (stays-with p) (omega arith))
-        (λ _. says refl (step-told c (stays-with p) (i .coming) (λ decided. omega arith)))
+        (λ _. (stays-with p, omega arith))
+        (λ _. (step-told c (stays-with p) (i .coming) (λ decided. omega arith)))
 
     iterated-comes : (norm : Float) (ws q : List Float) → Comes p h (iterated (ode+1 p) norm ws q .is)
     unfolding iterated newtonFailed newtonAgain
@@ -183,22 +182,21 @@ module _ (c : Configuration) where
         either (λ (a : After Tried). Comes p h (a .is)) _
         (λ _. judged-comes ws q)
         (λ _. either (λ (a : After Tried). Comes p h (a .is)) _
-        (λ _. says refl (jacobian-asked c (stays-with p) (i .coming) refl (λ decided. omega arith)))
-        (λ e. let more = not-given-up _ _ _ _ _ e in says refl (derivative-asked c (stays-with p) (i .coming) refl (λ decided. omega arith))))
+        (λ _. (jacobian-asked c (stays-with p) (i .coming) refl (λ decided. omega arith)))
+        (λ e. let more = not-given-up _ _ _ _ _ e in (derivative-asked c (stays-with p) (i .coming) refl (λ decided. omega arith))))
 
     reply-comes : (values ws q : List Float) → Comes p h (newtonReplied p values ws q .is)
     unfolding newtonReplied
     reply-comes values ws q = iterated-comes _ _ q
 
-    came-leads :
-        (a : After Tried) → Comes p h (a .is) →
-        Leads p h (if a .is .again then mainLoop (a .is .turn .run .at) (a .ws) (a .q) else after (a .is .turn) (a .ws) (a .q))
-    came-leads a (back t s j) = either (Leads p h) _ (λ _. loop-next c (a .ws) (a .q) s j) (λ f. absurd (true≢false (sym t ∙ f)))
-    came-leads a (says f n) = either (Leads p h) _ (λ t. absurd (true≢false (sym t ∙ f))) (λ _. n)
+    came-leads : (a : Tried) (ws q : List Float) → Comes p h a → Leads p h (onward mainLoop a ws q)
+    came-leads (rejected r) ws q (s, j) = loop-next c ws q s j
+    came-leads (says t) ws q n = n
 
     newton-leads : (values ws q : List Float) → Leads p h (newtonTurn p values ws q)
     unfolding newtonTurn
-    newton-leads values ws q = came-leads (newtonReplied p values ws q) (reply-comes values ws q)
+    newton-leads values ws q =
+        let a = newtonReplied p values ws q in came-leads (a .is) (a .ws) (a .q) (reply-comes values ws q)
 
   -- ---- by the place
 

@@ -17,9 +17,8 @@ use Rattle.rules.specs.State.{After, after}
 use Rattle.rules.specs.Moves.{loaded}
 use Rattle.rules.specs.laws.PartLaws.{loaded-over}
 use Rattle.rules.specs.laws.LengthLaws.{loaded-long}
-use Rattle.rules.specs.Attempt.{told}
+use Rattle.rules.specs.Attempt.{Tried, rejected, says, told}
 use Rattle.rules.specs.Answers.{isRefused, written}
-use Rattle.rules.specs.declared.stages.Tried.{Tried}
 
 -- e over the first places of q
 abbrev pub fronted : List Float → List Float → List Float
@@ -40,7 +39,8 @@ Says n t k = (k ≡ written n (t .answer)) × (t .run .at .n ≡ n) × (isRefuse
 
 -- so does an attempt's; a rejected one wrote nothing
 abbrev pub SaysTried : ℕ → Tried → ℕ → Type 0
-SaysTried n a k = Says n (a .turn) k × (a .again ≡ true → k ≡ 0)
+SaysTried n (rejected r) k = (k ≡ 0) × (r .n ≡ n)
+SaysTried n (says t) k = Says n t k
 
 module _ {A : Type 0} {Fits : A → ℕ → Type 0} {n : ℕ} where
   -- only slices that are long enough count

@@ -1,5 +1,5 @@
 -- What a reply's stages leave to the next: a state that is still ready, and how many values a reply brought.
-use mathlib.Core.Path.{_≡_, refl, ap}
+use mathlib.Core.Path.{_≡_, refl, sym, ap}
 use mathlib.Core.List.{List}
 use mathlib.Core.Bool.{true}
 use Prim.Native.Nat.{ℕ, _+_, _≤_}
@@ -7,17 +7,16 @@ use native.Mathlib.Omega.{arith}
 use lib.ListN.{length}
 use lib.Ieee.{Float}
 use Rattle.rules.specs.Types.{Progress, Pace, Reply, Awaited, Values, Continue, Interrupt, Modified}
-use Rattle.rules.specs.State.{withPace, withOrder, after, Left, left}
+use Rattle.rules.specs.State.{After, withPace, withOrder, after, Left, left}
 use Rattle.rules.specs.Replies.{valuesWant, wants}
 use Rattle.rules.specs.laws.Ready.{Ready, Awake, Enough, Answered}
 use Rattle.rules.specs.laws.ReadyLaws.{room-kept}
 use Rattle.rules.specs.laws.Moved.{Moved}
 use Rattle.rules.specs.laws.MovedLaws.{moved-on, pace-moves, rejected-moves, jac-moves}
-use Rattle.rules.specs.Attempt.{halved}
+use Rattle.rules.specs.Attempt.{halved, Tried, rejected}
 use Rattle.rules.specs.Step.{newtonReplied}
 use Rattle.rules.specs.laws.StepLaws.{reply-back}
 use Rattle.rules.specs.Reply.{jacobianStored, outdated}
-use Rattle.rules.specs.declared.stages.Tried.{Tried}
 use Rattle.rules.specs.declared.stages.Wants.the-variants.{Count}
 
 -- ---- a state that moved within an attempt is ready, where the slices kept their lengths
@@ -68,11 +67,11 @@ module _ {p : Progress} {ws q : List Float} (i : Ready p ws q) where
 
     -- the attempt rejected for its error
     pub replied-ready :
-        (values : List Float) {t : Tried} {v u : List Float} → after t v u ≡ newtonReplied p values ws q → t .again ≡ true →
-        length v ≡ length ws → length u ≡ length q → Ready (t .turn .run .at) v u
-    replied-ready values e again kept asked =
-        let back = rw (← e) at (reply-back p values ws q) in
-        ready-moved i (back again) (omega (arith, w .pending)) (i .sane .first) (i .sane .fifth) kept asked
+        (values : List Float) {r : Progress} {v u : List Float} → after (rejected r) v u ≡ newtonReplied p values ws q →
+        length v ≡ length ws → length u ≡ length q → Ready r v u
+    replied-ready values e kept asked =
+        let back = reply-back p values ws q (ap (λ (a : After Tried). a .is) (sym e)) in
+        ready-moved i back (omega (arith, w .pending)) (i .sane .first) (i .sane .fifth) kept asked
 
 -- ---- what a reply brings: the values that a question asked, or those of a modification
 

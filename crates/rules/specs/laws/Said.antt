@@ -9,9 +9,8 @@ use Rattle.rules.specs.Types.{Progress, Turn, Status, Derivative, Succes
 use Rattle.loops.specs.Arithmetic.{_⊕_, _⊖_, _⊗_, +0}
 use Rattle.rules.specs.Literals.{minPositive, tenth}
 use Rattle.rules.specs.State.{turn}
-use Rattle.rules.specs.Attempt.{end}
+use Rattle.rules.specs.Attempt.{Tried, rejected, says, end}
 use Rattle.rules.specs.laws.Moved.{Moved}
-use Rattle.rules.specs.declared.stages.Tried.{Tried}
 
 -- why the main loop ended: nothing is left of the way; the attempts are used up; the step is below the least number, or too
 -- small to move x. It never ends as interrupted
@@ -38,6 +37,6 @@ pub record Rejected (p r : Progress) : Type 0 where
   pub moved : Moved p r 0 0 1 1 0 1 (p .order)
 
 -- an attempt is rejected, or says something
-pub data Tries (p : Progress) (a : Tried) : Type 0 where
-  rejects : a .again ≡ true → Rejected p (a .turn .run .at) → Tries p a
-  speaks : a .again ≡ false → Said p (a .turn) → Tries p a
+abbrev pub Tries : Progress → Tried → Type 0
+Tries p (rejected r) = Rejected p r
+Tries p (says t) = Said p t

@@ -13,7 +13,7 @@ use Rattle.rules.specs.Types.{Progress, Turn, Awaited, Reply, Tolerance,
 use Rattle.rules.specs.Types.{FirstDerivative, FirstJacobian, StartDerivative, StartNotice, ModifiedStartDerivative, ModifiedStartJacobian, NewtonDerivative, FailedJacobian, StepNotice, ModifiedStepDerivative, ModifiedStepJacobian, OrderJacobian, Ended}
 use Rattle.rules.specs.Places.{need, y, y1, yNew, yPredict}
 use Rattle.rules.specs.State.{After, after}
-use Rattle.rules.specs.Attempt.{attempt, fittedAttempt, aimed, headed, guarded, halved, attemptAt, refactored, newtonStart, says, again, tries, mainLoop}
+use Rattle.rules.specs.Attempt.{attempt, fittedAttempt, aimed, headed, guarded, halved, attemptAt, refactored, newtonStart, Tried, rejected, says, onward, tries, mainLoop}
 use Rattle.rules.specs.Moves.{loaded}
 use Rattle.rules.specs.Step.{errorRejected, judged, stepAccepted, newtonFailed, newtonAgain, iterated, newtonReplied}
 use Rattle.rules.specs.Reply.{jacobianStored, started, hinitAsks, firstStep, hinitReplied, modified, restarted, chosen, ordered, stepped, newtonTurn, failedTurn, firstDerivative, firstJacobian, restartJacobian, stepJacobian, orderJacobian, startNoticed, stepNoticed, replied}
@@ -22,7 +22,6 @@ use Rattle.rules.specs.laws.LengthLaws.{copied-long, filled-long, loaded
 use Rattle.rules.specs.laws.QuestionLaws.{fronted, Speaks, Says, SaysTried, speaks-alike, speaks-nothing, speaks-either, speaks-told, speaks-notice}
 use Rattle.rules.specs.declared.settings.BDF.{BDF}
 use Rattle.rules.specs.declared.stages.Choice.{Choice}
-use Rattle.rules.specs.declared.stages.Tried.{Tried}
 use Rattle.rules.specs.declared.stages.Aimed.{Aimed}
 use Rattle.rules.specs.declared.stages.Aimed.the-variants.{At, AtEnd}
 
@@ -36,16 +35,12 @@ Turns p f = Speaks (Says (p .n)) (p .n) f
 abbrev Exact : Progress → List Float → Type 0
 Exact p ws = length ws ≡ need (p .n)
 
--- an attempt that says something is not tried again
-says-something : {a : Type 0} → false ≡ true → a
-says-something e = absurd (false≢true e)
-
 -- ---- the attempt
 
 newton-start-speaks : (p : Progress) (ws : List Float) → Exact p ws → Attempts p (newtonStart p ws)
 unfolding newtonStart
 newton-start-speaks p ws h =
-    speaks-told yNew _ _ (omega arith) (filled-long _ _ _ _ _ (copied-long _ _ _ _ ws h)) ((refl, refl, refl), says-something)
+    speaks-told yNew _ _ (omega arith) (filled-long _ _ _ _ _ (copied-long _ _ _ _ ws h)) (refl, refl, refl)
 
 refactored-speaks : (p : Progress) (ws : List Float) → Exact p ws → Attempts p (refactored p ws)
 unfolding refactored halved
@@ -53,7 +48,7 @@ refactored-speaks p ws h =
     let f = factored-long _ (p .n) (p .aim .c) (p .pivot) ws h in
     speaks-either _
     (λ _. newton-start-speaks _ _ f)
-    (λ _. speaks-nothing _ _ (rescaled-long _ _ _ _ _ f) ((refl, refl, refl), λ _. refl))
+    (λ _. speaks-nothing _ _ (rescaled-long _ _ _ _ _ f) (refl, refl))
 
 attempt-at-speaks : (p : Progress) (ws : List Float) → Exact p ws → Attempts p (attemptAt p ws)
 unfolding attemptAt
@@ -64,19 +59,19 @@ attempt-at-speaks p ws h =
 guarded-speaks : (p : Progress) (ws : List Float) → Exact p ws → Attempts p (guarded p ws)
 unfolding guarded
 guarded-speaks p ws h =
-    speaks-either _ (λ _. speaks-nothing _ ws h ((refl, refl, refl), says-something)) (λ _. attempt-at-speaks _ ws h)
+    speaks-either _ (λ _. speaks-nothing _ ws h (refl, refl, refl)) (λ _. attempt-at-speaks _ ws h)
 
 headed-speaks : (p : Progress) (a : Aimed) (ws : List Float) → Exact p ws → Attempts p (headed p a ws)
-headed-speaks p AtEnd ws h = speaks-nothing _ ws h ((refl, refl, refl), says-something)
+headed-speaks p AtEnd ws h = speaks-nothing _ ws h (refl, refl, refl)
 headed-speaks p (At g a) ws h = guarded-speaks _ ws h
 
 attempt-speaks : (p : Progress) (ws : List Float) → Exact p ws → Attempts p (attempt p ws)
 unfolding attempt fittedAttempt
 attempt-speaks p ws h =
     speaks-either _
-    (λ _. speaks-nothing _ ws h ((refl, refl, refl), says-something))
+    (λ _. speaks-nothing _ ws h (refl, refl, refl))
     (λ _. speaks-either _
-    (λ _. speaks-nothing _ ws h ((refl, refl, refl), says-something))
+    (λ _. speaks-nothing _ ws h (refl, refl, refl))
     (λ _. headed-speaks _ (aimed _ _ .is) _ (aimed-long _ _ _ (fitted-long _ p ws h))))
 
 -- ---- the main loop
@@ -85,19 +80,17 @@ nothing-fronted : (e q : List Float) → length e ≡ 0 → fronted e q ≡ q
 nothing-fronted [] q h = refl
 nothing-fronted (x ∷ e) q h = absurd (omega arith)
 
--- what follows an attempt: another stage from its state where it was rejected, else its turn
-abbrev onward : (Progress → List Float → List Float → After Turn) → After Tried → After Turn
-onward more a = if a .is .again then more (a .is .turn .run .at) (a .ws) (a .q) else after (a .is .turn) (a .ws) (a .q)
-
+-- what follows an attempt speaks, where what follows a rejected one does
 onward-speaks : {n : ℕ} {f : List Float → After Tried} (more : Progress → List Float → List Float → After Turn) →
     ((p : Progress) (ws : List Float) → p .n ≡ n → length ws ≡ need n → Speaks (Says n) n (more p ws)) →
-    Speaks (SaysTried n) n f → Speaks (Says n) n (λ q. onward more (f q))
+    Speaks (SaysTried n) n f → Speaks (Says n) n (λ q. onward more (f q .is) (f q .ws) (f q .q))
 onward-speaks {n} more m s =
-    speaks-alike (λ q h. ap (onward more) (s .says q h))
-    (speaks-either (s .is .again)
-    (λ t. speaks-alike (λ q h. ap (more (s .is .turn .run .at) (s .ws)) (nothing-fronted (s .asked) q (s .fits .1 t)))
-    (m (s .is .turn .run .at) (s .ws) (s .fits .0 .1) (s .long)))
-    (λ _. record { is = s .is .turn; ws = s .ws; asked = s .asked; fits = s .fits .0; long = s .long; says = λ q h. refl }))
+    speaks-alike (λ q h. ap (λ (a : After Tried). onward more (a .is) (a .ws) (a .q)) (s .says q h)) (each (s .is) (s .fits))
+  where
+    each : (a : Tried) → SaysTried n a (length (s .asked)) → Speaks (Says n) n (λ q. onward more a (s .ws) (fronted (s .asked) q))
+    each (rejected r) f =
+        speaks-alike (λ q h. ap (more r (s .ws)) (nothing-fronted (s .asked) q (f .0))) (m r (s .ws) (f .1) (s .long))
+    each (says t) f = record { is = t; ws = s .ws; asked = s .asked; fits = f; long = s .long; says = λ q h. refl }
 
 -- n for the state's own number
 of-size : {n : ℕ} (p : Progress) {A : Type 0} (Fits : ℕ → A → ℕ → Type 0) {f : List Float → After A} → p .n ≡ n
@@ -118,14 +111,14 @@ main-loop-speaks p ws e h = tries-speaks _ p ws e h
 step-accepted-speaks : (p : Progress) (safety norm : Float) (ws : List Float) → Exact p ws → Attempts p (stepAccepted p safety norm ws)
 unfolding stepAccepted
 step-accepted-speaks p safety norm ws h =
-    speaks-notice y _ _ (omega arith) (accepted-long _ (p .n) (p .order) ws h) ((refl, refl, refl), says-something)
+    speaks-notice y _ _ (omega arith) (accepted-long _ (p .n) (p .order) ws h) (refl, refl, refl)
 
 judged-speaks : (p : Progress) (ws : List Float) → Exact p ws → Attempts p (judged p ws)
 unfolding judged errorRejected
 judged-speaks p ws h =
     let w = error-long _ (p .n) (p .order) ws h in
     speaks-either _
-    (λ _. speaks-nothing _ _ (rescaled-long _ _ _ _ _ w) ((refl, refl, refl), λ _. refl))
+    (λ _. speaks-nothing _ _ (rescaled-long _ _ _ _ _ w) (refl, refl))
     (λ _. step-accepted-speaks p _ _ _ w)
 
 iterated-speaks : (p : Progress) (norm : Float) (ws : List Float) → Exact p ws → Attempts p (iterated p norm ws)
@@ -134,8 +127,8 @@ iterated-speaks p norm ws h =
     speaks-either _
     (λ _. judged-speaks p ws h)
     (λ _. speaks-either _
-    (λ _. speaks-told yPredict _ ws (omega arith) h ((refl, refl, refl), says-something))
-    (λ _. speaks-told yNew _ ws (omega arith) h ((refl, refl, refl), says-something)))
+    (λ _. speaks-told yPredict _ ws (omega arith) h (refl, refl, refl))
+    (λ _. speaks-told yNew _ ws (omega arith) h (refl, refl, refl)))
 
 newton-replied-speaks : (p : Progress) (values ws : List Float) → Exact p ws → Attempts p (newtonReplied p values ws)
 unfolding newtonReplied

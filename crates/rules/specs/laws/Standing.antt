@@ -38,22 +38,44 @@ columns underway ode jac odeLeft jacLeft starts ahead equal =
 -- modification; an attempt brings m derivatives and a Jacobian; an accepted step brings a derivative, and keeps the attempt's
 -- Jacobian, for its modification or for a change of order, which never come both. So every place can pay for what it asks.
 --
--- The columns, in the order of a row: attempts under way; derivatives and Jacobians asked; derivatives and Jacobians left; start
--- notices; answers ahead; equal steps. Newton's iteration has so many turns left, and so many steps were accepted
+-- `turns` are what is left of Newton's iteration, `accepted` the steps accepted so far.
+--
+--          u                 attempts under way
+--          | o               derivatives asked and not counted yet
+--          | | j             Jacobians asked and not counted yet
+--          | | | O           derivatives that may still be counted
+--          | | | | J         Jacobians that may still be counted
+--          | | | | | s       start notices, at most
+--          | | | | | | a     answers ahead, up to the third
+--          | | | | | | | e   equal steps, at most
+--          u o j O J s a e
 abbrev pub rowAt : ℕ → ℕ → Awaited → Row
-rowAt turns accepted FirstDerivative = columns 0 1 0 2 2 0 2 accepted
-rowAt turns accepted FirstJacobian = columns 0 0 1 1 2 0 1 accepted
-rowAt turns accepted StartDerivative = columns 0 0 0 1 1 0 0 accepted
-rowAt turns accepted StartNotice = columns 0 0 0 1 1 1 0 accepted
-rowAt turns accepted ModifiedStartDerivative = columns 0 1 0 1 1 1 0 accepted
-rowAt turns accepted ModifiedStartJacobian = columns 0 0 1 0 1 1 0 accepted
-rowAt turns accepted NewtonDerivative = columns 1 1 0 turns 1 1 0 accepted
-rowAt turns accepted FailedJacobian = columns 1 0 1 0 1 1 0 accepted
-rowAt turns accepted StepNotice = columns 0 0 0 1 1 1 0 accepted
-rowAt turns accepted ModifiedStepDerivative = columns 0 1 0 1 1 1 0 accepted
-rowAt turns accepted ModifiedStepJacobian = columns 0 0 1 0 1 1 0 0
-rowAt turns accepted OrderJacobian = columns 0 0 1 0 1 1 0 accepted
-rowAt turns accepted Ended = columns 0 0 0 0 0 1 0 accepted
+rowAt turns accepted FirstDerivative =
+    columns 0 1 0 2 2 0 2 accepted
+rowAt turns accepted FirstJacobian =
+    columns 0 0 1 1 2 0 1 accepted
+rowAt turns accepted StartDerivative =
+    columns 0 0 0 1 1 0 0 accepted
+rowAt turns accepted StartNotice =
+    columns 0 0 0 1 1 1 0 accepted
+rowAt turns accepted ModifiedStartDerivative =
+    columns 0 1 0 1 1 1 0 accepted
+rowAt turns accepted ModifiedStartJacobian =
+    columns 0 0 1 0 1 1 0 accepted
+rowAt turns accepted NewtonDerivative =
+    columns 1 1 0 turns 1 1 0 accepted
+rowAt turns accepted FailedJacobian =
+    columns 1 0 1 0 1 1 0 accepted
+rowAt turns accepted StepNotice =
+    columns 0 0 0 1 1 1 0 accepted
+rowAt turns accepted ModifiedStepDerivative =
+    columns 0 1 0 1 1 1 0 accepted
+rowAt turns accepted ModifiedStepJacobian =
+    columns 0 0 1 0 1 1 0 0
+rowAt turns accepted OrderJacobian =
+    columns 0 0 1 0 1 1 0 accepted
+rowAt turns accepted Ended =
+    columns 0 0 0 0 0 1 0 accepted
 
 abbrev pub here : Progress → Awaited → Row
 here p w = rowAt (p .limits .newton - p .newton .iters) (p .steps .accepted) w

@@ -10,7 +10,6 @@ use lib.ListN.{length}
 use lib.Ieee.{Float}
 use Rattle.rules.specs.Types.{Progress, Awaited, Answer, Turn, Status, Evals, Steps, Pace, Aim, Newton, Derivative, Jacobian, Start, Step, End, StartNotice, NewtonDerivative, StepNotice, Ended}
 use Rattle.rules.specs.Replies.{isEnded}
-use Rattle.rules.specs.State.{with}
 use Rattle.rules.specs.laws.Moved.{Moved, as-before}
 use Rattle.rules.specs.laws.MovedLaws.{repivoted-twice}
 use Rattle.rules.specs.laws.Said.{Said, ends, asks}
@@ -25,7 +24,21 @@ use Rattle.rules.specs.laws.Standing.{here, still, Stands, Stays, Next}
 
 pub stays-with :
     (p : Progress) {evals : Evals} {steps : Steps} {order : ℕ} {x : Float} {pace : Pace} {aim : Aim} {c : Float} {newton : Newton} →
-    Stays p (with p evals steps order x pace aim c newton (p .pivot))
+    Stays p
+    (record {
+      n = p .n;
+      limits = p .limits;
+      span = p .span;
+      evals = evals;
+      steps = steps;
+      order = order;
+      x = x;
+      pace = pace;
+      aim = aim;
+      «current_c» = c;
+      newton = newton;
+      pivot = p .pivot;
+    })
 stays-with p = record { same-n = refl; same-steps = refl; same-newton = refl; same-span = refl; pivots = as-before }
 
 stays-twice : {p r s : Progress} → Stays p r → Stays r s → Stays p s

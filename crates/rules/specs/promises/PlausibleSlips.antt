@@ -1,7 +1,7 @@
 -- What a plausible slip would change. Each law here names one thing that is easily got otherwise, and fails where it is.
 use mathlib.Core.Path.{_≡_, refl, sym, ap, _∙_}
 use mathlib.Core.List.{List, [], _∷_}
-use mathlib.Core.Bool.{true, false, false≢true}
+use mathlib.Core.Bool.{Bool, true, false, false≢true}
 use Prim.Native.Nat.{ℕ, _≤_}
 use lib.IntN.{pos, negsuc}
 use lib.Ieee.{Float, nan, inf, fin, ofBits, ofInt, add, sub, mul, div, neg, eq}
@@ -14,7 +14,9 @@ use Rattle.rules.specs.Types.{Progress, Turn, Success, UserInterrupt, Ne
 use Rattle.rules.specs.Answers.{isSuccess}
 use Rattle.rules.specs.Places.{y, rtol, atol, get}
 use Rattle.rules.specs.Starting.{sk}
-use Rattle.rules.specs.Rescale.{firstRow, mTurn, mRow, mTable, rTurn, rRow, rTable, computeR, scaledTurn, addScaled, productTurn, productRow, matmul, newRowTurn, newRow, newRows, copied, rescaled, changeD}
+use Rattle.rules.specs.Moves.{loadTurn, loaded}
+use Rattle.rules.specs.Rescale.{firstRow, mTurn, mRow, mTable, rTurn, rRow, rTable, computeR, scaledTurn, addScaled, productTurn, productRow, matmul, newRowTurn, newRow, newRows, rescaled, changeD}
+use Rattle.rules.specs.Attempt.{Tried, rejected, says}
 use Rattle.rules.specs.Step.{errorRejected}
 use Rattle.rules.specs.Reply.{jacobianStored, restartJacobian}
 use Rattle.rules.specs.laws.Said.{Cause, Said, ends, asks}
@@ -30,7 +32,7 @@ factor-1-changes-nothing n order d = when-true _ _ refl
 -- a sum starts from +0, so that -0 in D vanishes: order 1, D -0, -0, by 0.5
 pub sums-start-from-0 :
     changeD 1 1 (fin false 1 (negsuc 0)) (fin true 0 (pos 0) ∷ fin true 0 (pos 0) ∷ []) ≡ fin false 0 (pos 0) ∷ fin false 0 (pos 0) ∷ []
-unfolding if_then_else_ loop turns ofBits ofInt add sub mul div eq firstRow mTurn mRow mTable rTurn rRow rTable computeR scaledTurn addScaled productTurn productRow matmul newRowTurn newRow newRows copied rescaled changeD
+unfolding if_then_else_ loop turns ofBits ofInt add sub mul div eq firstRow mTurn mRow mTable rTurn rRow rTable computeR scaledTurn addScaled productTurn productRow matmul newRowTurn newRow newRows loadTurn loaded rescaled changeD
 sums-start-from-0 = refl
 
 -- ---- the starting step
@@ -50,9 +52,13 @@ scale-even n i ws other e r a = rw (e, r, a, abs-even (get n ws y i)) refl
 -- ---- the attempt
 
 -- a rejection for its error keeps the factoring, up to date or not
+abbrev pub RejectedWithFactoring : Bool → Tried → Type 0
+RejectedWithFactoring current (rejected p) = p .pace .«lu_is_current» ≡ current
+RejectedWithFactoring current (says t) = ⊥
+
 pub error-keeps-the-factoring :
     (p : Progress) (safety norm : Float) (ws : List Float) →
-    errorRejected p safety norm ws .is .turn .run .at .pace .«lu_is_current» ≡ p .pace .«lu_is_current»
+    RejectedWithFactoring (p .pace .«lu_is_current») (errorRejected p safety norm ws .is)
 unfolding errorRejected
 error-keeps-the-factoring p safety norm ws = refl
 

@@ -20,7 +20,8 @@ use Rattle.loops.specs.Arithmetic.{_⊕_, _⊗_, +0, one}
 use Rattle.matrix.specs.Size.{maxN}
 use Rattle.loops.specs.laws.RowLaws.{row-within}
 use Rattle.loops.specs.laws.LoopLaws.{loop-induction, stored-at}
-use Rattle.rules.specs.Rescale.{scaledTurn, addScaled, newRowTurn, newRow, newRows, copied, rescaled, computeR, matmul}
+use Rattle.rules.specs.laws.PartLaws.{loaded-front}
+use Rattle.rules.specs.Rescale.{scaledTurn, addScaled, newRowTurn, newRow, newRows, rescaled, computeR, matmul}
 
 -- ---- the meaning
 
@@ -154,9 +155,10 @@ ruOf order factor = matmul (computeR order factor) (computeR order one) (order +
 
 pub new-row-is-the-sum : (n order : ℕ) (factor : Float) (d : List Float) → n ≤ maxN → order ≤ 5 → (order + 1) * n ≤ length d
     → (i j : ℕ) → i ≤ order → j < n → at (rescaled n order factor d) (i * n + j) ≡ rowSum n (ruOf order factor) d (order + 1) i j
-unfolding rescaled copied
+unfolding rescaled
 new-row-is-the-sum n order factor d few small long i j b c =
     let within : i * n + n ≤ (order + 1) * n = row-within n (omega arith) in
     let scratch = newRows n (ruOf order factor) d (order + 1) in
-    stored-at ((order + 1) * n) (λ p. at scratch p) d long .holds (i * n + j) (omega arith)
+    ap (λ (t : List Float). at t (i * n + j)) (loaded-front scratch ((order + 1) * n) d)
+    ∙ stored-at ((order + 1) * n) (λ p. at scratch p) d long .holds (i * n + j) (omega arith)
     ∙ rows n (ruOf order factor) d (order + 1) few (omega arith) .sums i j (omega arith) c

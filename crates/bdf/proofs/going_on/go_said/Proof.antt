@@ -16,7 +16,7 @@ go-within-requires c κs =
 returns : tie.Need-returns
 unfolding goOn
 returns c =
-    rw (← c .before .before .before .before .before .go-checked .ensures, c .before .before .before .c .given .1, ← c .before .before .before .before .before .before .before .before .before .before .before .pre .1, said-turn (c .says .ensures (c .before .before .before .before .before .before .before .before .before .before .before .args .pivot .now)), c .before .without-pivots .ensures)
+    rw (← c .before .before .before .before .before .go-checked .ensures, c .before .before .before .c .given .1, ← c .before .before .before .before .before .before .before .before .before .before .before .pre .1, said-turn (c .says .result) (c .before .before .before .before .before .before .before .before .before .before .before .args .pivot .now) (c .says .ensures (c .before .before .before .before .before .before .before .before .before .before .before .args .pivot .now)), c .before .without-pivots .ensures)
 
 returns-2 : tie.Need-returns-2
 unfolding goOn

@@ -13,7 +13,7 @@ use Rattle.bdf.proofs.reply.chosen.Tie as tie
 returns : tie.Need-returns
 unfolding chosen if_then_else_
 returns c =
-    (again-prepared _ _ _ (c .again .ensures []) (ordered-ready _ _ (c .before .before .before .before .before .before .before .before .before .before .before .before .before .before .before .pre .0) (c .before .before .before .before .before .before .before .before .before .before .before .before .before .before .before .pre .1) (c .before .before .before .before .before .before .before .before .before .before .before .before .before .before .before .pre .2) (c .before .before .before .before .before .before .before .before .before .before .before .rescale-d .kept .0)), λ pivot. rw (← c .before .before .before .before .before .before .before .before .before .before .before .rescale-d .ensures, eq-eqb _ _ (c .before .if1 .taken)) (again-rest _ _ _ (c .again .ensures pivot)))
+    (again-prepared (c .again .result) _ _ (c .again .ensures []) (ordered-ready _ _ (c .before .before .before .before .before .before .before .before .before .before .before .before .before .before .before .pre .0) (c .before .before .before .before .before .before .before .before .before .before .before .before .before .before .before .pre .1) (c .before .before .before .before .before .before .before .before .before .before .before .before .before .before .before .pre .2) (c .before .before .before .before .before .before .before .before .before .before .before .rescale-d .kept .0)), λ pivot. rw (← c .before .before .before .before .before .before .before .before .before .before .before .rescale-d .ensures, eq-eqb _ _ (c .before .if1 .taken)) (again-rest (c .again .result) _ _ pivot (c .again .ensures pivot)))
 
 ask-jacobian-requires : tie.Need-ask-jacobian-requires
 ask-jacobian-requires c κs =
@@ -22,7 +22,7 @@ ask-jacobian-requires c κs =
 returns-2 : tie.Need-returns-2
 unfolding chosen if_then_else_
 returns-2 c =
-    (spoken-prepared _ _ _ (c .before .before .ask-jacobian .ensures []), λ pivot. rw (← c .before .before .before .before .before .before .before .before .before .before .before .before .before .before .before .rescale-d .ensures, ne-eqb _ _ (c .before .before .before .before .before .if1 .left)) (spoken-rest _ _ _ (c .before .before .ask-jacobian .ensures pivot)))
+    (spoken-prepared (c .before .before .ask-jacobian .result) _ _ [] (c .before .before .ask-jacobian .ensures []), λ pivot. rw (← c .before .before .before .before .before .before .before .before .before .before .before .before .before .before .before .rescale-d .ensures, ne-eqb _ _ (c .before .before .before .before .before .if1 .left)) (spoken-rest (c .before .before .ask-jacobian .result) _ _ pivot (c .before .before .ask-jacobian .ensures pivot)))
 
 pub chosen-spec : {M : Type 1} → statement M
 chosen-spec =

@@ -17,7 +17,7 @@ returns : tie.Need-returns
 unfolding failedTurn
 returns c =
     let ready = halved-ready (c .before .before .before .before .before .before .before .before .before .before .before .before .pre .0) (c .before .before .before .before .before .before .before .before .before .before .before .before .pre .1) _ (c .before .before .before .before .before .before .before .jacobian .ensures []) (c .before .before .before .halve .ensures []) (c .before .before .before .halve .kept .0 ∙ c .before .before .before .before .before .before .before .jacobian .kept .0) in
-    (again-prepared _ _ _ (c .again .ensures []) ready, λ pivot. rw (← c .before .before .before .before .before .before .before .jacobian .ensures pivot, ← c .before .before .before .halve .ensures pivot) (again-rest _ _ _ (c .again .ensures pivot)))
+    (again-prepared (c .again .result) _ _ (c .again .ensures []) ready, λ pivot. rw (← c .before .before .before .before .before .before .before .jacobian .ensures pivot, ← c .before .before .before .halve .ensures pivot) (again-rest (c .again .result) _ _ pivot (c .again .ensures pivot)))
 
 pub failed-turn-spec : {M : Type 1} → statement M
 failed-turn-spec =

@@ -7,7 +7,7 @@ use Rattle.number.specs.Helpers.{absOf}
 use Rattle.rules.specs.declared.types.Progress.{Progress}
 use Rattle.rules.specs.declared.types.Setting.{Setting}
 use Rattle.rules.specs.declared.types.Setting.the-variants.{Unset, Given}
-use Rattle.rules.specs.declared.stages.Tried.{Tried}
+use Rattle.rules.specs.Attempt.{Tried}
 use Rattle.rules.specs.State.{After}
 use Rattle.rules.specs.Reply.{firstStep, hinitAsks, started}
 use Rattle.bdf.specs.Core.{spoken}

@@ -11,7 +11,7 @@ returns : tie.Need-returns
 unfolding orderJacobian
 returns c =
     let ready = stored-ready (c .before .before .before .before .before .before .before .before .pre .0) _ (c .before .before .before .jacobian .ensures []) (c .before .before .before .jacobian .kept .0) in
-    (again-prepared _ _ _ (c .again .ensures []) ready, λ pivot. rw (← c .before .before .before .jacobian .ensures pivot) (again-rest _ _ _ (c .again .ensures pivot)))
+    (again-prepared (c .again .result) _ _ (c .again .ensures []) ready, λ pivot. rw (← c .before .before .before .jacobian .ensures pivot) (again-rest (c .again .result) _ _ pivot (c .again .ensures pivot)))
 
 pub order-jacobian-spec : {M : Type 1} → statement M
 order-jacobian-spec =

@@ -64,15 +64,15 @@ order-jacobian-requires c κs =
 
 returns : tie.Need-returns
 returns c =
-    (plain-resumable _ _ _ _ (c .plain .ensures) (spoken-prepared _ _ _ (c .before .before .before .before .before .first-derivative .ensures [])), rw (c .before .before .before .before .before .before .before .before .enum-told .given .1) (plain-resumed _ _ _ _ _ (c .plain .ensures) (spoken-rest _ _ _ (c .before .before .before .before .before .first-derivative .ensures (c .before .before .before .before .before .before .before .before .before .before .before .before .before .before .args .pivot .now)))))
+    (plain-resumable _ _ _ _ (c .plain .ensures) (spoken-prepared (c .before .before .before .before .before .first-derivative .result) _ _ [] (c .before .before .before .before .before .first-derivative .ensures [])), rw (c .before .before .before .before .before .before .before .before .enum-told .given .1) (plain-resumed _ _ _ _ _ (c .plain .ensures) (spoken-rest (c .before .before .before .before .before .first-derivative .result) _ _ (c .before .before .before .before .before .before .before .before .before .before .before .before .before .before .args .pivot .now) (c .before .before .before .before .before .first-derivative .ensures (c .before .before .before .before .before .before .before .before .before .before .before .before .before .before .args .pivot .now)))))
 
 returns-2 : tie.Need-returns-2
 returns-2 c =
-    (plain-resumable _ _ _ _ (c .plain2 .ensures) (spoken-prepared _ _ _ (c .before .before .before .before .before .first-jacobian .ensures [])), rw (c .before .before .before .before .before .before .before .before .enum-told2 .given .1) (plain-resumed _ _ _ _ _ (c .plain2 .ensures) (spoken-rest _ _ _ (c .before .before .before .before .before .first-jacobian .ensures (c .before .before .before .before .before .before .before .before .before .before .before .before .before .before .args .pivot .now)))))
+    (plain-resumable _ _ _ _ (c .plain2 .ensures) (spoken-prepared (c .before .before .before .before .before .first-jacobian .result) _ _ [] (c .before .before .before .before .before .first-jacobian .ensures [])), rw (c .before .before .before .before .before .before .before .before .enum-told2 .given .1) (plain-resumed _ _ _ _ _ (c .plain2 .ensures) (spoken-rest (c .before .before .before .before .before .first-jacobian .result) _ _ (c .before .before .before .before .before .before .before .before .before .before .before .before .before .before .args .pivot .now) (c .before .before .before .before .before .first-jacobian .ensures (c .before .before .before .before .before .before .before .before .before .before .before .before .before .before .args .pivot .now)))))
 
 returns-3 : tie.Need-returns-3
 returns-3 c =
-    (plain-resumable _ _ _ _ (c .plain3 .ensures) (spoken-prepared _ _ _ (c .before .before .before .before .before .hinit-replied .ensures [])), rw (c .before .before .before .before .before .before .before .before .enum-told3 .given .1) (plain-resumed _ _ _ _ _ (c .plain3 .ensures) (spoken-rest _ _ _ (c .before .before .before .before .before .hinit-replied .ensures (c .before .before .before .before .before .before .before .before .before .before .before .before .before .before .args .pivot .now)))))
+    (plain-resumable _ _ _ _ (c .plain3 .ensures) (spoken-prepared (c .before .before .before .before .before .hinit-replied .result) _ _ [] (c .before .before .before .before .before .hinit-replied .ensures [])), rw (c .before .before .before .before .before .before .before .before .enum-told3 .given .1) (plain-resumed _ _ _ _ _ (c .plain3 .ensures) (spoken-rest (c .before .before .before .before .before .hinit-replied .result) _ _ (c .before .before .before .before .before .before .before .before .before .before .before .before .before .before .args .pivot .now) (c .before .before .before .before .before .hinit-replied .ensures (c .before .before .before .before .before .before .before .before .before .before .before .before .before .before .args .pivot .now)))))
 
 returns-4 : tie.Need-returns-4
 returns-4 c =
@@ -80,7 +80,7 @@ returns-4 c =
 
 returns-5 : tie.Need-returns-5
 returns-5 c =
-    (plain-resumable _ _ _ _ (c .plain5 .ensures) (spoken-prepared _ _ _ (c .before .before .before .before .before .restarted .ensures [])), plain-resumed _ _ _ _ _ (c .plain5 .ensures) (spoken-rest _ _ _ (c .before .before .before .before .before .restarted .ensures (c .before .before .before .before .before .before .before .before .before .before .before .before .before .args .pivot .now)) ∙ restart-replied (c .before .before .before .before .before .before .before .before .before .before .before .before .before .args .w) (c .before .before .before .before .before .before .before .before .match .keys5) (whole (c .before .before .before .before .before .before .before .before .before .before .before .before .before .args .p) (c .before .before .before .before .before .before .before .before .before .before .before .before .before .args .pivot .now)) (c .before .before .before .before .before .before .before .before .before .before .before .before .before .args .reply) (c .before .before .before .before .before .before .before .before .before .before .before .before .before .args .values .now) (c .before .before .before .before .before .before .before .before .before .before .before .before .before .args .ws .now) (c .before .before .before .before .before .before .before .before .before .before .before .before .before .args .q .now)))
+    (plain-resumable _ _ _ _ (c .plain5 .ensures) (spoken-prepared (c .before .before .before .before .before .restarted .result) _ _ [] (c .before .before .before .before .before .restarted .ensures [])), plain-resumed _ _ _ _ _ (c .plain5 .ensures) (spoken-rest (c .before .before .before .before .before .restarted .result) _ _ (c .before .before .before .before .before .before .before .before .before .before .before .before .before .args .pivot .now) (c .before .before .before .before .before .restarted .ensures (c .before .before .before .before .before .before .before .before .before .before .before .before .before .args .pivot .now)) ∙ restart-replied (c .before .before .before .before .before .before .before .before .before .before .before .before .before .args .w) (c .before .before .before .before .before .before .before .before .match .keys5) (whole (c .before .before .before .before .before .before .before .before .before .before .before .before .before .args .p) (c .before .before .before .before .before .before .before .before .before .before .before .before .before .args .pivot .now)) (c .before .before .before .before .before .before .before .before .before .before .before .before .before .args .reply) (c .before .before .before .before .before .before .before .before .before .before .before .before .before .args .values .now) (c .before .before .before .before .before .before .before .before .before .before .before .before .before .args .ws .now) (c .before .before .before .before .before .before .before .before .before .before .before .before .before .args .q .now)))
 
 returns-6 : tie.Need-returns-6
 returns-6 c =
@@ -88,7 +88,7 @@ returns-6 c =
 
 returns-7 : tie.Need-returns-7
 returns-7 c =
-    (plain-resumable _ _ _ _ (c .plain7 .ensures) (newton-prepared _ _ _ _ _ _ _ _ (c .before .before .before .before .before .newton-replied .ensures) (c .before .before .before .before .before .before .before .before .before .before .before .before .before .before .pre .0) (c .before .before .before .before .before .before .before .before .before .before .before .before .before .before .pre .1) (c .before .before .before .before .before .newton-replied .kept .0) (c .before .before .before .before .before .newton-replied .kept .1 .0)), rw (c .before .before .before .before .before .before .before .before .enum-told6 .given .1) (plain-resumed _ _ _ _ _ (c .plain7 .ensures) (newton-rest _ _ _ _ _ _ _ _ (c .before .before .before .before .before .newton-replied .ensures))))
+    (plain-resumable _ _ _ _ (c .plain7 .ensures) (newton-prepared _ _ _ _ _ _ _ (c .before .before .before .before .before .newton-replied .result) (c .before .before .before .before .before .newton-replied .ensures) (c .before .before .before .before .before .before .before .before .before .before .before .before .before .before .pre .0) (c .before .before .before .before .before .before .before .before .before .before .before .before .before .before .pre .1) (c .before .before .before .before .before .newton-replied .kept .0) (c .before .before .before .before .before .newton-replied .kept .1 .0)), rw (c .before .before .before .before .before .before .before .before .enum-told6 .given .1) (plain-resumed _ _ _ _ _ (c .plain7 .ensures) (newton-rest _ _ _ _ _ _ _ (c .before .before .before .before .before .newton-replied .result) (c .before .before .before .before .before .newton-replied .ensures))))
 
 returns-8 : tie.Need-returns-8
 returns-8 c =
@@ -108,7 +108,7 @@ returns-11 c =
 
 returns-12 : tie.Need-returns-12
 returns-12 c =
-    (plain-resumable _ _ _ _ (c .plain10 .ensures) (says-prepared _ _ _ (c .before .end .ensures [])), rw (c .before .before .enum-told11 .given .1) (plain-resumed _ _ _ _ _ (c .plain10 .ensures) (says-rest _ _ _ (c .before .end .ensures (c .before .before .before .before .before .before .before .before .args .pivot .now)))))
+    (plain-resumable _ _ _ _ (c .plain10 .ensures) (says-prepared (c .before .end .result) _ _ [] (c .before .end .ensures [])), rw (c .before .before .enum-told11 .given .1) (plain-resumed _ _ _ _ _ (c .plain10 .ensures) (says-rest (c .before .end .result) _ _ (c .before .before .before .before .before .before .before .before .args .pivot .now) (c .before .end .ensures (c .before .before .before .before .before .before .before .before .args .pivot .now)))))
 
 pub replied-spec : {M : Type 1} → statement M
 replied-spec =

@@ -11,7 +11,7 @@ returns : tie.Need-returns
 unfolding restartJacobian
 returns c =
     let ready = outdated-ready (stored-ready (c .before .before .before .before .before .before .before .before .before .pre .0) _ (c .before .before .before .before .jacobian .ensures []) (c .before .before .before .before .jacobian .kept .0)) (c .before .outdated .ensures []) in
-    (again-prepared _ _ _ (c .again .ensures []) ready, λ pivot. rw (← c .before .before .before .before .jacobian .ensures pivot, ← c .before .outdated .ensures pivot) (again-rest _ _ _ (c .again .ensures pivot)))
+    (again-prepared (c .again .result) _ _ (c .again .ensures []) ready, λ pivot. rw (← c .before .before .before .before .jacobian .ensures pivot, ← c .before .outdated .ensures pivot) (again-rest (c .again .result) _ _ pivot (c .again .ensures pivot)))
 
 pub restart-jacobian-spec : {M : Type 1} → statement M
 restart-jacobian-spec =

@@ -12,19 +12,19 @@ modified-requires c κs =
 
 returns : tie.Need-returns
 returns c =
-    (again-prepared _ _ _ (c .again .ensures []) (c .before .before .before .before .before .before .pre .0), λ pivot. rw (c .before .enum-told .given .1) (again-rest _ _ _ (c .again .ensures pivot)))
+    (again-prepared (c .again .result) _ _ (c .again .ensures []) (c .before .before .before .before .before .before .pre .0), λ pivot. rw (c .before .enum-told .given .1) (again-rest (c .again .result) _ _ pivot (c .again .ensures pivot)))
 
 returns-2 : tie.Need-returns-2
 returns-2 c =
-    (says-prepared _ _ _ (c .end .ensures []), λ pivot. rw (c .before .enum-told2 .given .1) (says-rest _ _ _ (c .end .ensures pivot)))
+    (says-prepared (c .end .result) _ _ [] (c .end .ensures []), λ pivot. rw (c .before .enum-told2 .given .1) (says-rest (c .end .result) _ _ pivot (c .end .ensures pivot)))
 
 returns-3 : tie.Need-returns-3
 returns-3 c =
-    (spoken-prepared _ _ _ (c .before .before .before .before .modified .ensures []), λ pivot. rw (c .before .before .before .before .before .before .before .before .reply .given .1) (spoken-rest _ _ _ (c .before .before .before .before .modified .ensures pivot)))
+    (spoken-prepared (c .before .before .before .before .modified .result) _ _ [] (c .before .before .before .before .modified .ensures []), λ pivot. rw (c .before .before .before .before .before .before .before .before .reply .given .1) (spoken-rest (c .before .before .before .before .modified .result) _ _ pivot (c .before .before .before .before .modified .ensures pivot)))
 
 returns-4 : tie.Need-returns-4
 returns-4 c =
-    (again-prepared _ _ _ (c .again2 .ensures []) (c .before .before .before .before .before .before .pre .0), λ pivot. rw (c .before .enum-told3 .given .1) (again-rest _ _ _ (c .again2 .ensures pivot)))
+    (again-prepared (c .again2 .result) _ _ (c .again2 .ensures []) (c .before .before .before .before .before .before .pre .0), λ pivot. rw (c .before .enum-told3 .given .1) (again-rest (c .again2 .result) _ _ pivot (c .again2 .ensures pivot)))
 
 pub start-noticed-spec : {M : Type 1} → statement M
 start-noticed-spec =

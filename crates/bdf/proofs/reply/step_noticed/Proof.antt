@@ -16,11 +16,11 @@ returns c =
 
 returns-2 : tie.Need-returns-2
 returns-2 c =
-    (plain-resumable _ _ _ _ (c .plain .ensures) (says-prepared _ _ _ (c .before .end .ensures [])), λ pivot. rw (c .before .before .enum-told2 .given .1) (plain-resumed _ _ _ _ _ (c .plain .ensures) (says-rest _ _ _ (c .before .end .ensures pivot))))
+    (plain-resumable _ _ _ _ (c .plain .ensures) (says-prepared (c .before .end .result) _ _ [] (c .before .end .ensures [])), λ pivot. rw (c .before .before .enum-told2 .given .1) (plain-resumed _ _ _ _ _ (c .plain .ensures) (says-rest (c .before .end .result) _ _ pivot (c .before .end .ensures pivot))))
 
 returns-3 : tie.Need-returns-3
 returns-3 c =
-    (plain-resumable _ _ _ _ (c .plain2 .ensures) (spoken-prepared _ _ _ (c .before .before .before .before .before .modified .ensures [])), λ pivot. rw (c .before .before .before .before .before .before .before .before .before .reply .given .1) (plain-resumed _ _ _ _ _ (c .plain2 .ensures) (spoken-rest _ _ _ (c .before .before .before .before .before .modified .ensures pivot))))
+    (plain-resumable _ _ _ _ (c .plain2 .ensures) (spoken-prepared (c .before .before .before .before .before .modified .result) _ _ [] (c .before .before .before .before .before .modified .ensures [])), λ pivot. rw (c .before .before .before .before .before .before .before .before .before .reply .given .1) (plain-resumed _ _ _ _ _ (c .plain2 .ensures) (spoken-rest (c .before .before .before .before .before .modified .result) _ _ pivot (c .before .before .before .before .before .modified .ensures pivot))))
 
 returns-4 : tie.Need-returns-4
 returns-4 c =

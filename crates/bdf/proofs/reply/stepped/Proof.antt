@@ -11,7 +11,7 @@ use Rattle.bdf.proofs.reply.stepped.Tie as tie
 returns : tie.Need-returns
 unfolding stepped if_then_else_
 returns c =
-    (says-prepared _ _ _ (c .end .ensures []), λ pivot. rw (c .before .if1 .taken) (says-rest _ _ _ (c .end .ensures pivot)))
+    (says-prepared (c .end .result) _ _ [] (c .end .ensures []), λ pivot. rw (c .before .if1 .taken) (says-rest (c .end .result) _ _ pivot (c .end .ensures pivot)))
 
 returns-2 : tie.Need-returns-2
 unfolding stepped if_then_else_
@@ -21,7 +21,7 @@ returns-2 c =
 returns-3 : tie.Need-returns-3
 unfolding stepped if_then_else_
 returns-3 c =
-    (again-prepared _ _ _ (c .again .ensures []) (c .before .before .before .before .before .before .before .before .pre), λ pivot. rw (c .before .before .before .if1 .left, le-ltb _ _ (c .before .if2 .left)) (again-rest _ _ _ (c .again .ensures pivot)))
+    (again-prepared (c .again .result) _ _ (c .again .ensures []) (c .before .before .before .before .before .before .before .before .pre), λ pivot. rw (c .before .before .before .if1 .left, le-ltb _ _ (c .before .if2 .left)) (again-rest (c .again .result) _ _ pivot (c .again .ensures pivot)))
 
 pub stepped-spec : {M : Type 1} → statement M
 stepped-spec =

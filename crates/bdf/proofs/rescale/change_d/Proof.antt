@@ -13,29 +13,22 @@ returns : tie.Need-returns
 unfolding changeD if_then_else_
 returns c = rw (c .if1 .taken)
 
-mul-copy-rows : tie.Need-mul-copy-rows
-mul-copy-rows c =
+mul-load : tie.Need-mul-load
+mul-load c =
     let args = c .before .before .before .before .before .before .before .before .before .before .before .before .args in
     let below : args .order * (args .n) + (args .n) ≤ 6 * (args .n) = row-within (args .n) (omega arith) in
     omega arith
 
-copy-rows-requires : tie.Need-copy-rows-requires
-copy-rows-requires c κs =
+load-requires : tie.Need-load-requires
+load-requires c κs =
     let args = c .before .before .before .before .before .before .before .before .before .before .before .before .args in
     let below : args .order * (args .n) + (args .n) ≤ 6 * (args .n) = row-within (args .n) (omega arith) in
-    omega arith
+    (omega arith, omega arith)
 
 returns-2 : tie.Need-returns-2
 unfolding changeD rescaled if_then_else_
 returns-2 c =
-    let if1 = c .before .before .before .before .before .before .before .before .before .before .before .before .before .if1 in
-    let pre = c .before .before .before .before .before .before .before .before .before .before .before .before .before .before .before .pre in
-    let copy-rows = c .before .before .copy-rows in
-    let new-rows = c .before .before .before .before .before .new-rows in
-    let matmul = c .before .before .before .before .before .before .before .before .matmul in
-    let compute-r = c .before .before .before .before .before .before .before .before .before .before .before .before .compute-r in
-    let unit-r = c .before .before .before .before .before .before .before .before .before .before .before .unit-r in
-    rw (if1 .left, min-eq-left (pre .1), copy-rows .ensures, new-rows .ensures, matmul .ensures, compute-r .ensures, unit-r .ensures)
+    rw (c .before .before .before .before .before .before .before .before .before .before .before .before .before .if1 .left, min-eq-left (c .before .before .before .before .before .before .before .before .before .before .before .before .before .before .before .pre .1), c .before .before .load .ensures, c .before .before .before .before .before .new-rows .ensures, c .before .before .before .before .before .before .before .before .matmul .ensures, c .before .before .before .before .before .before .before .before .before .before .before .before .compute-r .ensures, c .before .before .before .before .before .before .before .before .before .before .before .unit-r .ensures)
 
 pub change-d-spec : {M : Type 1} → statement M
 change-d-spec =
@@ -47,7 +40,8 @@ change-d-spec =
     (λ c κs. search needs)
     (λ c κs. search needs)
     (λ c κs. search needs)
-    mul-copy-rows
-    copy-rows-requires
+    (λ c. search needs)
+    mul-load
+    load-requires
     (λ c. search needs)
     returns-2)

@@ -6,12 +6,10 @@ use mathlib.Core.List.{[]}
 use Prim.Native.Nat.{_≤_}
 use native.Mathlib.Omega.{arith}
 use lib.ListN.{length}
-use Rattle.loops.specs.laws.ChoiceLaws.{when-true, when-false}
 use Rattle.matrix.specs.Size.{maxN}
-use Rattle.rules.specs.Attempt.{attemptsLeft}
 use Rattle.rules.specs.laws.MainLoopLaws.{attemptsIn, rest-after, fewer-after, ready-after}
-use Rattle.bdf.specs.Core.{bare, tried, leftOver, Prepared}
-use Rattle.bdf.proofs.CoreLaws.{ready-of}
+use Rattle.bdf.specs.Core.{tried, leftOver, Prepared}
+use Rattle.bdf.proofs.CoreLaws.{ready-of, tried-again, left-again, left-said}
 use Rattle.bdf.proofs.run.run.Statement.{statement}
 use Rattle.bdf.proofs.run.run.Tie as tie
 
@@ -34,7 +32,8 @@ attempt-requires c κs =
 loop-less : tie.Need-loop-less Inv-loop μ-loop
 loop-less c =
     let again = c .before .before .before .before .before .before .before .before .before .before .before .loop-test .taken in
-    rw (when-true (attemptsLeft (bare (c .before .before .before .before .before .before .before .before .before .before .before .before .loop .o .at))) 0 again) (fewer-after (ready-of (c .before .before .before .before .before .before .before .before .before .before .before .before .loop .pivot) (c .before .before .before .before .before .before .before .before .before .before .before .before .loop .inv .4 again)) (c .before .before .before .before .before .before .attempt .ensures))
+    let at = c .before .before .before .before .before .before .before .before .before .before .before .before .loop in
+    rw (tried-again (at .o) (at .pivot) again) (fewer-after (ready-of (c .before .before .before .before .before .before .before .before .before .before .before .before .loop .pivot) (c .before .before .before .before .before .before .before .before .before .before .before .before .loop .inv .4 again)) (c .before .before .before .before .before .before .attempt .ensures))
 
 loop-again : tie.Need-loop-again Inv-loop μ-loop
 loop-again c =
@@ -46,8 +45,8 @@ loop-again c =
       said .kept .1 .0 ∙ inv .1,
       said .kept .1 .1 .0 ∙ inv .2,
       omega (arith, said .kept .1 .1 .0, inv .3),
-      (λ t. ready-of [] (ready-after ready (said .ensures) (said .kept .0) (said .kept .1 .0) t)),
-      sym (rest-after ready (said .ensures)) ∙ sym (when-true _ _ again) ∙ inv .5,
+      (λ t. ready-of [] (ready-after ready (said .ensures) (tried-again _ _ t) (said .kept .0) (said .kept .1 .0))),
+      sym (rest-after ready (said .ensures)) ∙ sym (left-again _ _ _ _ again) ∙ inv .5,
     )
 
 same-length : tie.Need-same-length Inv-loop μ-loop
@@ -64,7 +63,7 @@ same-length-3 c =
 
 returns : tie.Need-returns Inv-loop μ-loop
 returns c =
-    sym (when-false _ _ (c .loop-test .left)) ∙ c .before .loop .inv .5 ∙ c .before .before .before .before .before .before .first-stage .ensures .1
+    sym (left-said _ _ _ _ (c .loop-test .left)) ∙ c .before .loop .inv .5 ∙ c .before .before .before .before .before .before .first-stage .ensures .1
 
 pub run-spec : {M : Type 1} → statement M
 run-spec =
