@@ -90,6 +90,31 @@ fn evaluate(yi: &mut [f64], cont: &[f64], p: &[f64; 5], order: usize)
     }
 }
 
+// yi at xi by the polynomial of that order.
+fn values_of_order(yi: &mut [f64], cont: &[f64], xi: f64, x_new: f64, h: f64, order: usize)
+    requires { ⌜ (order ≤ 5) × (length (now cont) ≡ 7 * length (now yi)) ⌝ }
+    ensures { λ _. ⌜ now (yi .exit) ≡ evaluated (now (cont .entry)) (productsOf xi «x_new» h order) order (now (yi .entry)) ⌝ }
+{
+    let p = products(xi, x_new, h, order);
+    evaluate(yi, cont, &p, order);
+}
+
+// The same, for speed: where the order is a literal the compiler unrolls the loops over it and keeps the products in registers.
+// With the variable in one call for all orders the whole takes twice the time.
+fn values_by_order(yi: &mut [f64], cont: &[f64], xi: f64, x_new: f64, h: f64, order: usize)
+    requires { ⌜ (order ≤ 5) × (length (now cont) ≡ 7 * length (now yi)) ⌝ }
+    ensures { λ _. ⌜ now (yi .exit) ≡ evaluated (now (cont .entry)) (productsOf xi «x_new» h order) order (now (yi .entry)) ⌝ }
+{
+    match order {
+        5 => values_of_order(yi, cont, xi, x_new, h, 5),
+        4 => values_of_order(yi, cont, xi, x_new, h, 4),
+        3 => values_of_order(yi, cont, xi, x_new, h, 3),
+        2 => values_of_order(yi, cont, xi, x_new, h, 2),
+        1 => values_of_order(yi, cont, xi, x_new, h, 1),
+        _ => values_of_order(yi, cont, xi, x_new, h, order),
+    }
+}
+
 // yi at xi, from the coefficients, the true start and the signed step of a notice.
 pub fn interpolate(xi: f64, yi: &mut [f64], cont: &[f64], xold: f64, h: f64) -> Interpolation
     ensures { λ r. ⌜ says (saidOf r) (now (yi .exit)) ≡ interpolation xi (now (yi .entry)) (now (cont .entry)) xold h ⌝ }
@@ -108,7 +133,6 @@ pub fn interpolate(xi: f64, yi: &mut [f64], cont: &[f64], xold: f64, h: f64) -> 
         return Interpolation::Interpolated;
     }
     let order = order_of(cont[6]);
-    let p = products(xi, xold + h, h, order);
-    evaluate(yi, cont, &p, order);
+    values_by_order(yi, cont, xi, xold + h, h, order);
     Interpolation::Interpolated
 }

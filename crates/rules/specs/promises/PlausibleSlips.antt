@@ -4,20 +4,21 @@ use mathlib.Core.List.{List, [], _∷_}
 use mathlib.Core.Bool.{Bool, true, false, false≢true}
 use Prim.Native.Nat.{ℕ, _≤_}
 use lib.IntN.{pos, negsuc}
-use lib.Ieee.{Float, nan, inf, fin, ofBits, ofInt, add, sub, mul, div, neg, eq}
+use lib.Ieee.{Float, nan, inf, fin, ofBits, ofInt, add, sub, mul, div, neg, eq, lt, le}
 use Rattle.loops.specs.Choice.{if_then_else_}
 use Rattle.loops.specs.laws.ChoiceLaws.{when-true}
 use Rattle.loops.specs.Loop.{loop, turns}
-use Rattle.loops.specs.Arithmetic.{one}
+use Rattle.loops.specs.Arithmetic.{_⊖_, +0, one}
 use Rattle.number.specs.Helpers.{absOf}
-use Rattle.rules.specs.Types.{Progress, Turn, Success, UserInterrupt, NeedLargerNMax, StepSizeTooSmall}
+use Rattle.rules.specs.Types.{Progress, Turn, Answer, Step, Success, UserInterrupt, NeedLargerNMax, StepSizeTooSmall}
 use Rattle.rules.specs.Answers.{isSuccess}
 use Rattle.rules.specs.Places.{y, rtol, atol, get}
 use Rattle.rules.specs.Starting.{sk}
 use Rattle.rules.specs.Moves.{loadTurn, loaded}
 use Rattle.rules.specs.Rescale.{firstRow, mTurn, mRow, mTable, rTurn, rRow, rTable, computeR, scaledTurn, addScaled, productTurn, productRow, matmul, newRowTurn, newRow, newRows, rescaled, changeD}
 use Rattle.rules.specs.Attempt.{Tried, rejected, says}
-use Rattle.rules.specs.Step.{errorRejected}
+use Rattle.rules.specs.Step.{errorRejected, stepAccepted}
+use Rattle.rules.specs.Order.{bestOf}
 use Rattle.rules.specs.Reply.{jacobianStored, restartJacobian}
 use Rattle.rules.specs.laws.Said.{Cause, Said, ends, asks}
 use Rattle.rules.specs.laws.MainLoopLaws.{main-loop-says}
@@ -51,6 +52,11 @@ scale-even n i ws other e r a = rw (e, r, a, abs-even (get n ws y i)) refl
 
 -- ---- the attempt
 
+-- what an attempt says, which is not rejected
+abbrev pub Tells : Answer → Tried → Type 0
+Tells a (rejected p) = ⊥
+Tells a (says t) = t .answer ≡ a
+
 -- a rejection for its error keeps the factoring, up to date or not
 abbrev pub RejectedWithFactoring : Bool → Tried → Type 0
 RejectedWithFactoring current (rejected p) = p .pace .«lu_is_current» ≡ current
@@ -61,6 +67,25 @@ pub error-keeps-the-factoring :
     RejectedWithFactoring (p .pace .«lu_is_current») (errorRejected p safety norm ws .is)
 unfolding errorRejected
 error-keeps-the-factoring p safety norm ws = refl
+
+-- a step's notice: the reported old x is the new x less h, and the interpolant's start is where the attempt began
+pub old-x-and-start :
+    (p : Progress) (safety norm : Float) (ws q : List Float) →
+    Tells (Step (p .aim .«x_new» ⊖ p .aim .«h_signed») (p .aim .«x_new») (p .aim .«x_start») (p .aim .«h_signed»))
+    (stepAccepted p safety norm ws q .is)
+unfolding stepAccepted
+old-x-and-start p safety norm ws q = refl
+
+-- ---- the choice of order
+
+-- of equal factors the last wins; a NaN compares as equal, as the best so far and as the one met
+pub last-of-equals : (bestOf one one +0 ≡ 1) × (bestOf one one one ≡ 2)
+unfolding bestOf if_then_else_ lt le ofBits
+last-of-equals = (refl, refl)
+
+pub nan-as-equal : (bestOf nan one +0 ≡ 1) × (bestOf one nan nan ≡ 2)
+unfolding bestOf if_then_else_ lt le ofBits
+nan-as-equal = (refl, refl)
 
 -- ---- a start that the caller modified
 

@@ -1,4 +1,4 @@
--- `interpolate::evaluate`: one component a turn. Assumes nothing.
+-- `polynomial::evaluate`: one component a turn. Assumes nothing.
 use mathlib.Core.Path.{_≡_, refl}
 use Prim.Native.Nat.{_-_}
 use native.Mathlib.Omega.{arith}

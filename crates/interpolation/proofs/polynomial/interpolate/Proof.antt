@@ -1,4 +1,4 @@
--- `interpolate::interpolate` goes by the tests of its definition, one answer a way; past them its callees compute the values.
+-- `polynomial::interpolate` goes by the tests of its definition, one answer a way; past them its callees compute the values.
 -- Assumes nothing.
 use borrow.Author.Needs.{needs}
 use borrow.Author.Tests.{lt-ltb, le-ltb, eq-eqb, ne-eqb}
@@ -28,26 +28,21 @@ returns-4 c =
     let if3 = c .before .if3 in
     rw (le-ltb _ _ (if1 .left), eq-eqb _ _ (if2 .left), if3 .left, eq-eqb _ _ (c .if4 .taken))
 
-products-requires : tie.Need-products-requires
-products-requires c κs = rw (c .order-of .ensures) (order-at-most-5 _)
-
-evaluate-requires : tie.Need-evaluate-requires
-evaluate-requires c κs =
-    let order-of = c .before .before .before .order-of in
-    let if2 = c .before .before .before .before .before .before .before .if2 in
-    (rw (order-of .ensures) (order-at-most-5 _), if2 .left)
+values-by-order-requires : tie.Need-values-by-order-requires
+values-by-order-requires c κs =
+    let if2 = c .before .before .before .before .before .if2 in
+    (rw (c .before .order-of .ensures) (order-at-most-5 _), if2 .left)
 
 returns-5 : tie.Need-returns-5
 unfolding interpolation valuesAt if_then_else_
 returns-5 c =
-    let if1 = c .before .before .before .before .before .before .before .before .before .before .before .if1 in
-    let if2 = c .before .before .before .before .before .before .before .before .before .before .if2 in
-    let if3 = c .before .before .before .before .before .before .before .before .before .if3 in
-    let if4 = c .before .before .before .before .before .before .before .before .if4 in
-    let evaluate = c .before .before .evaluate in
-    let products = c .before .before .before .before .before .products in
-    let order-of = c .before .before .before .before .before .before .order-of in
-    rw (le-ltb _ _ (if1 .left), eq-eqb _ _ (if2 .left), if3 .left, ne-eqb _ _ (if4 .left), evaluate .ensures, products .ensures, order-of .ensures)
+    let if1 = c .before .before .before .before .before .before .before .before .before .if1 in
+    let if2 = c .before .before .before .before .before .before .before .before .if2 in
+    let if3 = c .before .before .before .before .before .before .before .if3 in
+    let if4 = c .before .before .before .before .before .before .if4 in
+    let order-of = c .before .before .before .before .order-of in
+    let values-by-order = c .before .before .values-by-order in
+    rw (le-ltb _ _ (if1 .left), eq-eqb _ _ (if2 .left), if3 .left, ne-eqb _ _ (if4 .left), values-by-order .ensures, order-of .ensures)
 
 pub interpolate-spec : {M : Type 1} → statement M
 interpolate-spec =
@@ -60,7 +55,6 @@ interpolate-spec =
     returns-4
     (λ c. search needs)
     (λ c κs. search needs)
-    products-requires
-    evaluate-requires
+    values-by-order-requires
     (λ c. search needs)
     returns-5)

@@ -1,4 +1,4 @@
--- `interpolate::order_of` goes by the same tests as its definition, and tells a NaN by its differing from itself. Assumes nothing.
+-- `polynomial::order_of` goes by the same tests as its definition, and tells a NaN by its differing from itself. Assumes nothing.
 use mathlib.Core.Path.{_≡_, sym, _∙_}
 use mathlib.Core.Bool.{Bool}
 use lib.Ieee.{Float, isNan, ne}

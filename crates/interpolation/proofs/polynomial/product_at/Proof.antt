@@ -1,4 +1,4 @@
--- `interpolate::product_at` goes by the same test as its definition. Assumes nothing.
+-- `polynomial::product_at` goes by the same test as its definition. Assumes nothing.
 use mathlib.Core.Path.{sym}
 use native.Mathlib.Omega.{arith}
 use borrow.Author.Tests.{eq-eqb, ne-eqb}

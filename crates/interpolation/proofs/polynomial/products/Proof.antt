@@ -1,4 +1,4 @@
--- `interpolate::products`: one product a turn. Assumes nothing.
+-- `polynomial::products`: one product a turn. Assumes nothing.
 use Prim.Native.Nat.{_-_}
 use native.Mathlib.Omega.{arith}
 use Rattle.loops.specs.laws.Turned.{Turned, turn-none, turn-more, turn-all}

@@ -1,4 +1,4 @@
--- `interpolate::sum_at`: one term a turn, from the first coefficient on. Assumes nothing.
+-- `polynomial::sum_at`: one term a turn, from the first coefficient on. Assumes nothing.
 use mathlib.Core.Path.{refl}
 use Prim.Native.Nat.{_-_, _*_}
 use native.Mathlib.Omega.{arith}

@@ -1,4 +1,4 @@
--- `interpolate::x_factor` is its formula. Assumes nothing.
+-- `polynomial::x_factor` is its formula. Assumes nothing.
 use mathlib.Core.Path.{refl}
 use Prim.Native.Nat.{_^_}
 use native.Mathlib.Omega.{arith}
