@@ -21,7 +21,7 @@ fn main() {
     let dir = PathBuf::from(std::env::args().nth(1).expect("bench DIR"));
     println!("{:<26} {:>10} {:>10} {:>8}  {:<9} {}", "what", "ours, ns", "Rust, ns", "ratio", "same bits", "goal");
     let random = &mut Random::new(1);
-    number(&dir, random);
+    roots(&dir, random);
     matrix(&dir, random);
     interpolation(&dir, random);
     runs(&dir);
@@ -104,12 +104,12 @@ fn words(xs: &[f64]) -> Vec<u64> {
     xs.iter().map(|x| x.to_bits()).collect()
 }
 
-fn number(dir: &Path, random: &mut Random) {
+fn roots(dir: &Path, random: &mut Random) {
     let xs: Vec<f64> = (0..1024).map(|_| random.decade(-12.0, 12.0)).collect();
     let input = [&[xs.len() as u64][..], &words(&xs)].concat();
     let sqrt = || xs.iter().fold(0.0, |sum, x| sum + black_box(x).sqrt());
     let row = |what: String, k: usize, rust: &dyn Fn() -> f64, expected: &dyn Fn() -> f64, goal: &'static str| {
-        Row { what, driver: dir.join("number"), head: vec![k as u64], input: input.clone(), times: 200, units: xs.len() as f64, rust, expected, goal }.print()
+        Row { what, driver: dir.join("roots"), head: vec![k as u64], input: input.clone(), times: 200, units: xs.len() as f64, rust, expected, goal }.print()
     };
     row("sqrt (Rust: hardware)".into(), 0, &sqrt, &sqrt, "ours at most 30, better 20");
     for k in 1..=7 {

@@ -1,10 +1,7 @@
--- What a job file says, what its right side is, and what its run prints.
+-- What a job file says, and what its right side is.
 pub mod Types
 pub mod Packed
 pub mod Reading
 pub mod Right
-pub mod Lines
--- ---- a line as the code puts it
-pub mod Fields
 pub mod laws
 pub mod promises

@@ -1,3 +1,2 @@
--- What holds of a job that was read and of lines that are put field by field, for our own proofs.
+-- What holds of a job that was read, for our own proofs and those of the job program.
 pub mod ReadingLaws
-pub mod FieldLaws

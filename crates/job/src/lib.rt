@@ -1,16 +1,8 @@
-// A job file: y' = A y with its beginning, packed. Reading one, its right side, and the lines that its run prints.
-mod fields;
-mod lines;
-mod numbers;
+// A job file: y' = A y with its beginning, packed. Reading one, and its right side.
 mod packed;
 mod reader;
 mod right;
 
-pub use lines::end_line;
-pub use lines::refusal_line;
-pub use lines::start_line;
-pub use lines::step_line;
-pub use numbers::number_of;
 pub use packed::CELLS;
 pub use packed::LONGEST;
 pub use reader::Job;

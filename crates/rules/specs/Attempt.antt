@@ -107,7 +107,7 @@ mustFactor p =
     not (p .pace .«lu_is_current») ||
     Ieee.lt tenth (absOf (p .aim .c ⊖ p .«current_c») ⊘ maxOf (absOf (p .aim .c)) one)
 
--- the factoring's pivots; where it succeeded it is current, and c is the one that it is of
+-- after a factoring that succeeded: one more was made, these are its pivots, it is current, and current_c is the c that it is of
 abbrev pub factoredFrom : Progress → Factors → Progress
 factoredFrom p f =
     record {
@@ -125,6 +125,7 @@ factoredFrom p f =
       pivot = f .pivot;
     }
 
+-- after one that failed: one more was made, and its pivots stand
 abbrev pub singularFrom : Progress → Factors → Progress
 singularFrom p f =
     record {
@@ -187,8 +188,10 @@ attempt p ws q =
     else if Ieee.lt (p .pace .h) minPositive then after (says (end StepSizeTooSmall p)) ws q
     else fittedAttempt p ws q
 
--- ---- 'main_loop: attempts until one says something. Each that is rejected was counted, so limit - total + 1 are enough
+-- ---- 'main_loop: attempts until one says something
 
+-- k attempts at most. Each that is rejected was counted, so that limit - total + 1 are enough, and the first clause is never met
+-- (`main-loop-turn`, laws/MainLoopLaws.antt: the loop is an attempt, and the same again where it was rejected)
 unfoldable pub tries : ℕ → Progress → List Float → List Float → After Turn
 tries zero p ws q = after (end NeedLargerNMax p) ws q
 tries (suc k) p ws q =

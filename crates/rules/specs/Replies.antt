@@ -53,7 +53,7 @@ wordWants n Continue = Count 0
 wordWants n Interrupt = Count 0
 wordWants n (Modified x) = Count n
 
--- a derivative is n values, a Jacobian n * n
+-- A derivative is n values, a Jacobian n * n. The last case cannot be met: a run that has ended was refused (10) before.
 abbrev pub wants : ℕ → Awaited → Reply → Wants
 wants n FirstDerivative r = valuesWant n r
 wants n FirstJacobian r = valuesWant (n * n) r

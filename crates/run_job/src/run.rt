@@ -165,7 +165,7 @@ fn last(out: &mut [u8], said: Said) -> Place {
     let answer = turn.answer;
     match answer {
         Answer::End { status, h } => sink::end(out, place, status, h, at.steps, at.evals),
-        Answer::Refused(why) => sink::refusal(out, place, job::number_of(why)),
+        Answer::Refused(why) => sink::refusal(out, place, lines::number_of(why)),
         _ => place,
     }
 }

@@ -30,37 +30,37 @@ pub fn has_room(p: Place) -> bool {
 }
 
 pub fn start(out: &mut [u8], p: Place, x: f64, y: &[f64]) -> Place {
-    let q = job::start_line(out, p, x, y);
+    let q = lines::start_line(out, p, x, y);
     if has_room(q) {
         return q;
     }
     let e = flush(out, p);
-    job::start_line(out, e, x, y)
+    lines::start_line(out, e, x, y)
 }
 
 pub fn step(out: &mut [u8], p: Place, x: f64, y: &[f64]) -> Place {
-    let q = job::step_line(out, p, x, y);
+    let q = lines::step_line(out, p, x, y);
     if has_room(q) {
         return q;
     }
     let e = flush(out, p);
-    job::step_line(out, e, x, y)
+    lines::step_line(out, e, x, y)
 }
 
 pub fn end(out: &mut [u8], p: Place, status: Status, h: f64, steps: Steps, evals: Evals) -> Place {
-    let q = job::end_line(out, p, status, h, steps, evals);
+    let q = lines::end_line(out, p, status, h, steps, evals);
     if has_room(q) {
         return q;
     }
     let e = flush(out, p);
-    job::end_line(out, e, status, h, steps, evals)
+    lines::end_line(out, e, status, h, steps, evals)
 }
 
 pub fn refusal(out: &mut [u8], p: Place, number: u64) -> Place {
-    let q = job::refusal_line(out, p, number);
+    let q = lines::refusal_line(out, p, number);
     if has_room(q) {
         return q;
     }
     let e = flush(out, p);
-    job::refusal_line(out, e, number)
+    lines::refusal_line(out, e, number)
 }

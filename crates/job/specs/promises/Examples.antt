@@ -3,16 +3,11 @@ use mathlib.Core.Path.{_≡_, refl}
 use mathlib.Core.Bool.{true, false}
 use mathlib.Core.List.{List, [], _∷_}
 use Prim.Native.Nat.{ℕ}
-use lib.IntN.{pos, negsuc}
-use lib.Ieee.{Float, fin, toBits}
 use Rattle.loops.specs.Choice.{if_then_else_}
 use Rattle.loops.specs.Loop.{turns, loop}
 use Rattle.loops.specs.Refusal.{refuses}
-use Rattle.text.specs.Digits.{digit, spelled, placesWithin}
-use Rattle.job.specs.Types.{NeedLargerNMax}
 use Rattle.job.specs.Packed.{headBits, headOf}
 use Rattle.job.specs.Reading.{ReadOutcome, acceptedOf, headRead, readOf}
-use Rattle.job.specs.Lines.{spaced, line, endLine, refusalLine}
 
 -- n 1, 100,000 steps, Newton 4, a given first step: 000001 00011000011010100000 0000100 0 000000
 pub example-head : headOf (headBits (0x04 ∷ 0x61 ∷ 0xA8 ∷ 0x02 ∷ 0x00 ∷ [])) ≡ record { n = 1; «max_steps» = 100000; «newton_maxiter» = 4; automatic = 0; padding = 0 }
@@ -33,14 +28,3 @@ thirty-three = refl
 pub thirty-two : readOf (0x80 ∷ 0 ∷ 0 ∷ 0 ∷ 0 ∷ []) [] [] ≡ (refuses 17, [], [])
 unfolding readOf headRead acceptedOf headBits loop turns if_then_else_
 thirty-two = refl
-
--- `E 2 3FE0000000000000 1 1 0 2 1 1`, the end of the example with max_steps 1
-pub example-end : endLine NeedLargerNMax (fin false 1 (negsuc 0)) (record { total = 1; accepted = 1; rejected = 0 }) (record { ode = 2; jac = 1; lu = 1 })
-    ≡ 69 ∷ 32 ∷ 50 ∷ 32 ∷ 51 ∷ 70 ∷ 69 ∷ 48 ∷ 48 ∷ 48 ∷ 48 ∷ 48 ∷ 48 ∷ 48 ∷ 48 ∷ 48 ∷ 48 ∷ 48 ∷ 48 ∷ 48 ∷ 32 ∷ 49 ∷ 32 ∷ 49 ∷ 32 ∷ 48 ∷ 32 ∷ 50 ∷ 32 ∷ 49 ∷ 32 ∷ 49 ∷ 10 ∷ []
-unfolding line spaced spelled placesWithin digit if_then_else_ toBits
-example-end = refl
-
--- `R 17`
-pub refused-17 : refusalLine 17 ≡ 82 ∷ 32 ∷ 49 ∷ 55 ∷ 10 ∷ []
-unfolding line spaced spelled placesWithin digit if_then_else_
-refused-17 = refl
