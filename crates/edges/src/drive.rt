@@ -18,7 +18,7 @@ use std::num;
 use text::Place;
 
 // The rates are rate, 2 rate, 3 rate, .., and the Jacobian that is handed in is slope times the true one.
-pub struct Case {
+pub(crate) struct Case {
     pub n: usize,
     pub rate: f64,
     pub slope: f64,
@@ -29,18 +29,35 @@ pub struct Case {
 // ---- the run
 
 // The end of a run with all forgeries and, beside it, the end of the same run with none.
-pub fn run(out: &mut [u8], place: Place, tally: &mut [u64], c: Case) -> Place
+pub(crate) fn run(out: &mut [u8], place: Place, tally: &mut [u64], c: Case) -> Place
     requires { ⌜ c .n ≤ 32 ⌝ }
 {
     let n = say::length(out, place, b"run n ", c.n);
-    let to = say::words(out, n, b": ");
-    let forged = ended(out, to, tally, c, FORGERIES);
-    let alone = say::words(out, forged, b"; alone: ");
-    let end = ended(out, alone, tally, c, 0);
-    say::words(out, end, b"\n")
+    let forged = ended(out, n, b": ", tally, c, FORGERIES);
+    let alone = ended(out, forged, b"; alone: ", tally, c, 0);
+    text::put_byte(out, alone, b'\n')
 }
 
-fn ended(out: &mut [u8], place: Place, tally: &mut [u64], c: Case, forgeries: usize) -> Place
+// Words, and then how a run ended on whose states so many forgeries were tried.
+fn ended(
+    out: &mut [u8],
+    place: Place,
+    words: &[u8],
+    tally: &mut [u64],
+    c: Case,
+    forgeries: usize,
+) -> Place
+    requires { ⌜ (c .n ≤ 32) × (forgeries ≤ 23) ⌝ }
+{
+    let last = driven(tally, c, forgeries);
+    let run = last.run;
+    let answer = last.answer;
+    let to = text::put_bytes(out, place, words);
+    say::end(out, to, answer, run.at)
+}
+
+// In slices that are just long enough.
+fn driven(tally: &mut [u64], c: Case, forgeries: usize) -> Turn
     requires { ⌜ (c .n ≤ 32) × (forgeries ≤ 23) ⌝ }
 {
     let mut ws = [0.0f64; 3104];
@@ -48,10 +65,7 @@ fn ended(out: &mut [u8], place: Place, tally: &mut [u64], c: Case, forgeries: us
     let n = c.n;
     let room = need(n);
     let questions = 8 * n;
-    let last = within(tally, c, forgeries, &mut ws[..room], &mut q[..questions]);
-    let run = last.run;
-    let answer = last.answer;
-    say::end(out, place, answer, run.at)
+    within(tally, c, forgeries, &mut ws[..room], &mut q[..questions])
 }
 
 fn need(n: usize) -> usize
@@ -61,7 +75,7 @@ fn need(n: usize) -> usize
     (2 * n + 33) * n
 }
 
-// A run from its beginning, in slices that are just long enough.
+// A run from its beginning.
 fn within(tally: &mut [u64], c: Case, forgeries: usize, ws: &mut [f64], q: &mut [f64]) -> Turn
     requires { ⌜ (c .n ≤ 32) × ((forgeries ≤ 23) × (8 * c .n ≤ length (now q))) ⌝ }
 {
@@ -234,25 +248,17 @@ fn diagonal(values: &mut [f64], n: usize, first: f64)
 
 // ---- the forgeries
 
-// The state with which the run goes on, once every forged one was tried on it.
+// The state with which the run goes on, once every forged one was tried on it: beyond each bound, then at it.
 fn swept(tally: &mut [u64], turn: Turn, forgeries: usize, ws: &mut [f64], q: &mut [f64]) -> Run
     requires { ⌜ forgeries ≤ 23 ⌝ }
 {
     let answer = turn.answer;
     let reply = unsuited(answer);
     let mut run = turn.run;
-    for k in 0..forgeries {
-        run = both(tally, k, run, reply, ws, q);
+    for side in 0..2 * forgeries {
+        run = tried(tally, side / 2, 1 - side % 2, run, reply, ws, q);
     }
     run
-}
-
-// Beyond the bound, then at it.
-fn both(tally: &mut [u64], k: usize, run: Run, reply: Reply, ws: &mut [f64], q: &mut [f64]) -> Run
-    requires { ⌜ k < 23 ⌝ }
-{
-    let back = tried(tally, k, 1, run, reply, ws, q);
-    tried(tally, k, 0, back, reply, ws, q)
 }
 
 fn tried(
@@ -290,17 +296,33 @@ struct Outcome {
 }
 
 fn refused(run: Run, reply: Reply, ws: &mut [f64], q: &mut [f64]) -> Outcome {
-    let room = mixed(ws);
-    let questions = mixed(q);
+    let before = summed(ws, q);
     let turn = go_on(run, reply, &[], ws, q);
-    let changed = differs(room, mixed(ws)) + differs(questions, mixed(q));
     let answer = turn.answer;
     let back = turn.run;
     Outcome {
         number: say::refusal(answer),
-        changed,
+        changed: differing(before, summed(ws, q)),
         back,
     }
+}
+
+// The checksums of the two lent slices.
+struct Sums {
+    room: u64,
+    questions: u64,
+}
+
+fn summed(ws: &[f64], q: &[f64]) -> Sums {
+    Sums {
+        room: mixed(ws),
+        questions: mixed(q),
+    }
+}
+
+// How many of the two differ.
+fn differing(a: Sums, b: Sums) -> u64 {
+    differs(a.room, b.room) + differs(a.questions, b.questions)
 }
 
 fn differs(a: u64, b: u64) -> u64

@@ -10,36 +10,36 @@ use rules::types::Steps;
 use std::num;
 
 // A run's counters are far from where this wraps.
-pub fn before(bound: usize, by: usize) -> usize {
+pub(crate) fn before(bound: usize, by: usize) -> usize {
     num::wrapping_sub_usize(bound, by)
 }
 
-pub fn sized(p: Progress, n: usize) -> Progress {
+pub(crate) fn sized(p: Progress, n: usize) -> Progress {
     let mut r = p;
     r.n = n;
     r
 }
 
-pub fn ordered(p: Progress, order: usize) -> Progress {
+pub(crate) fn ordered(p: Progress, order: usize) -> Progress {
     let mut r = p;
     r.order = order;
     r
 }
 
-pub fn step_limited(p: Progress, limit: usize) -> Progress {
+pub(crate) fn step_limited(p: Progress, limit: usize) -> Progress {
     let mut r = p;
     r.limits.steps = limit;
     r
 }
 
-pub fn newton_limited(p: Progress, limit: usize) -> Progress {
+pub(crate) fn newton_limited(p: Progress, limit: usize) -> Progress {
     let mut r = p;
     r.limits.newton = limit;
     r
 }
 
 // As before the first attempt, so that no limit is too low for what is counted.
-pub fn uncounted(p: Progress) -> Progress {
+pub(crate) fn uncounted(p: Progress) -> Progress {
     let steps = Steps {
         total: 0,
         accepted: 0,
@@ -57,56 +57,56 @@ pub fn uncounted(p: Progress) -> Progress {
     r
 }
 
-pub fn totalled(p: Progress, total: usize) -> Progress {
+pub(crate) fn totalled(p: Progress, total: usize) -> Progress {
     let mut r = p;
     r.steps.total = total;
     r
 }
 
-pub fn accepted(p: Progress, steps: usize) -> Progress {
+pub(crate) fn accepted(p: Progress, steps: usize) -> Progress {
     let mut r = p;
     r.steps.accepted = steps;
     r
 }
 
-pub fn rejected(p: Progress, steps: usize) -> Progress {
+pub(crate) fn rejected(p: Progress, steps: usize) -> Progress {
     let mut r = p;
     r.steps.rejected = steps;
     r
 }
 
-pub fn equal(p: Progress, steps: usize) -> Progress {
+pub(crate) fn equal(p: Progress, steps: usize) -> Progress {
     let mut r = p;
     r.pace.equal_steps = steps;
     r
 }
 
-pub fn factored(p: Progress, lu: usize) -> Progress {
+pub(crate) fn factored(p: Progress, lu: usize) -> Progress {
     let mut r = p;
     r.evals.lu = lu;
     r
 }
 
-pub fn jacobians(p: Progress, jac: usize) -> Progress {
+pub(crate) fn jacobians(p: Progress, jac: usize) -> Progress {
     let mut r = p;
     r.evals.jac = jac;
     r
 }
 
-pub fn derived(p: Progress, ode: usize) -> Progress {
+pub(crate) fn derived(p: Progress, ode: usize) -> Progress {
     let mut r = p;
     r.evals.ode = ode;
     r
 }
 
-pub fn counted(p: Progress, iters: usize) -> Progress {
+pub(crate) fn counted(p: Progress, iters: usize) -> Progress {
     let mut r = p;
     r.newton.iters = iters;
     r
 }
 
 // One of the first n - 1 pivots, another from derivative to derivative.
-pub fn turned_pivot(p: Progress, by: usize) -> Progress
+pub(crate) fn turned_pivot(p: Progress, by: usize) -> Progress
     requires { ⌜ by ≤ 1 ⌝ }
 {
     let n = p.n;
@@ -117,11 +117,11 @@ pub fn turned_pivot(p: Progress, by: usize) -> Progress
     pivoted(p, p.evals.ode % judged, before(n, 1 - by))
 }
 
-pub fn last_pivot(p: Progress) -> Progress {
+pub(crate) fn last_pivot(p: Progress) -> Progress {
     pivoted(p, before(p.n, 1), p.n)
 }
 
-pub fn pivoted(p: Progress, i: usize, row: usize) -> Progress {
+pub(crate) fn pivoted(p: Progress, i: usize, row: usize) -> Progress {
     if 32 <= i {
         return p;
     }
@@ -133,7 +133,7 @@ pub fn pivoted(p: Progress, i: usize, row: usize) -> Progress {
 }
 
 // No number in the state is one.
-pub fn no_numbers(p: Progress) -> Progress {
+pub(crate) fn no_numbers(p: Progress) -> Progress {
     let nan = 0.0 / 0.0;
     let span = Span {
         xend: nan,

@@ -3,16 +3,14 @@
 // but for a Newton limit of 0 while a Newton derivative is awaited, where no count is below it.
 ghost use Prim.Native.Nat.{_≤_};
 use crate::fields;
-use crate::say;
 use rules::types::Awaited;
 use rules::types::Newton;
 use rules::types::Progress;
 use rules::types::Run;
 use std::num;
-use text::Place;
 
 // What is forged; from `Accepted` on T, A and m are 01's. Those from AcceptedMax on have only one of the two sides.
-pub enum Forgery {
+pub(crate) enum Forgery {
     Size,
     NoSize,
     LowOrder,
@@ -38,9 +36,9 @@ pub enum Forgery {
     Nothing,
 }
 
-pub const FORGERIES: usize = 23;
+pub(crate) const FORGERIES: usize = 23;
 
-pub fn numbered(k: usize) -> Forgery {
+pub(crate) fn numbered(k: usize) -> Forgery {
     match k {
         0 => Forgery::Size,
         1 => Forgery::NoSize,
@@ -68,41 +66,8 @@ pub fn numbered(k: usize) -> Forgery {
     }
 }
 
-// Its name, with what is damaged before the stroke and what is not behind it.
-pub fn name(out: &mut [u8], place: Place, f: Forgery) -> Place {
-    match f {
-        Forgery::Size => say::words(out, place, b"n 33 / 32"),
-        Forgery::NoSize => say::words(out, place, b"n 0, not ended / ended"),
-        Forgery::LowOrder => say::words(out, place, b"order 0 / 1"),
-        Forgery::HighOrder => say::words(out, place, b"order 6 / 5"),
-        Forgery::LowStepLimit => say::words(out, place, b"step limit 0 / 1"),
-        Forgery::HighStepLimit => say::words(out, place, b"step limit 1000001 / 1000000"),
-        Forgery::LowNewtonLimit => say::words(out, place, b"Newton limit 0 / 1"),
-        Forgery::HighNewtonLimit => say::words(out, place, b"Newton limit 65 / 64"),
-        Forgery::Pivot => say::words(out, place, b"one of n - 1 pivots n / n - 1"),
-        Forgery::Total => say::words(out, place, b"T limit + 1 / limit"),
-        Forgery::Accepted => say::words(out, place, b"A T - rejected + 1 / T - rejected"),
-        Forgery::Rejected => say::words(out, place, b"rejected T - A + 1 / T - A"),
-        Forgery::EqualSteps => say::words(out, place, b"equal steps A + 1 / A"),
-        Forgery::Factorings => say::words(out, place, b"factorings T + 1 / T"),
-        Forgery::Jacobians => say::words(out, place, b"Jacobians 3 + T / 2 + T"),
-        Forgery::Derivatives => say::words(out, place, b"derivatives 3 + mT + A / 2 + mT + A"),
-        Forgery::NewtonCount => say::words(out, place, b"Newton count m / m - 1"),
-        Forgery::AcceptedMax => say::words(out, place, b"A 2^64 - 1, rejected 1 /"),
-        Forgery::RejectedMax => say::words(out, place, b"rejected 2^64 - 1 /"),
-        Forgery::OtherCount => say::words(
-            out,
-            place,
-            b"/ Newton count m, no Newton derivative awaited",
-        ),
-        Forgery::LastPivot => say::words(out, place, b"/ n-th pivot n"),
-        Forgery::NotNumbers => say::words(out, place, b"/ NaN"),
-        Forgery::Nothing => say::words(out, place, b"/ as it was"),
-    }
-}
-
 // What going on must answer where the reply's kind does not suit; 0 where this state has no such forgery.
-pub fn expected(f: Forgery, by: usize, run: Run) -> u64 {
+pub(crate) fn expected(f: Forgery, by: usize, run: Run) -> u64 {
     let w = run.awaited;
     let at = run.at;
     if !applies(f, by, w, at.n) {
@@ -134,17 +99,17 @@ fn applies(f: Forgery, by: usize, w: Awaited, n: usize) -> bool {
 }
 
 // Whether the state is another than the run's own.
-pub fn is_forged(f: Forgery) -> bool {
+pub(crate) fn is_forged(f: Forgery) -> bool {
     match f {
         Forgery::Nothing => false,
         _ => true,
     }
 }
 
-pub const PLACES: usize = 13;
+pub(crate) const PLACES: usize = 13;
 
 // The number of a place, in the order in which `Awaited` lists them.
-pub fn place(w: Awaited) -> usize
+pub(crate) fn place(w: Awaited) -> usize
     ensures { λ r. ⌜ r ≤ 12 ⌝ }
 {
     match w {
@@ -178,7 +143,7 @@ fn awaits_newton(w: Awaited) -> bool {
     }
 }
 
-pub fn forged(f: Forgery, by: usize, run: Run) -> Run
+pub(crate) fn forged(f: Forgery, by: usize, run: Run) -> Run
     requires { ⌜ by ≤ 1 ⌝ }
 {
     let w = run.awaited;

@@ -27,7 +27,7 @@ struct Said {
     place: Place,
 }
 
-pub fn all(out: &mut [u8], place: Place) -> Place {
+pub(crate) fn all(out: &mut [u8], place: Place) -> Place {
     let begun = beginnings(out, place);
     let long = going_on(out, begun, 32, 3104, 256);
     going_on(out, long, 1, 35, 8)
@@ -92,17 +92,22 @@ fn tried(out: &mut [u8], place: Place, l: Slices) -> Place
 
 fn described(out: &mut [u8], place: Place, l: Slices) -> Place {
     let n = say::length(out, place, b"begin n ", l.n);
-    let room = say::length(out, n, b" workspace ", l.room);
-    let questions = say::length(out, room, b" question ", l.questions);
-    let relative = say::length(out, questions, b" tolerances ", l.relative);
+    let slices = both(out, n, l.room, l.questions);
+    let relative = say::length(out, slices, b" tolerances ", l.relative);
     say::length(out, relative, b" ", l.absolute)
+}
+
+// How long the two slices are that every call is lent.
+fn both(out: &mut [u8], place: Place, room: usize, questions: usize) -> Place {
+    let workspace = say::length(out, place, b" workspace ", room);
+    say::length(out, workspace, b" question ", questions)
 }
 
 // A line's end: what was answered.
 fn told(out: &mut [u8], place: Place, answer: Answer) -> Place {
-    let p = say::words(out, place, b": ");
+    let p = text::put_bytes(out, place, b": ");
     let a = say::answer(out, p, answer);
-    say::words(out, a, b"\n")
+    text::put_bytes(out, a, b"\n")
 }
 
 fn begun(l: Slices) -> Turn
@@ -174,66 +179,61 @@ fn answers(out: &mut [u8], first: Said, n: usize, ws: &mut [f64], q: &mut [f64])
     said.place
 }
 
-// One answer: replies with a slice that is short, then a full one.
-fn gone_on(out: &mut [u8], said: Said, n: usize, ws: &mut [f64], q: &mut [f64]) -> Said
+// With the workspace short, the question slice, the reply, and with all of them in full.
+const WAYS: usize = 4;
+
+// One answer: each way on the state that the one before handed back.
+fn gone_on(out: &mut [u8], first: Said, n: usize, ws: &mut [f64], q: &mut [f64]) -> Said
     requires { ⌜ n ≤ 32 ⌝ }
 {
-    let turn = said.turn;
+    let turn = first.turn;
     let answer = turn.answer;
     let reply = suited(answer);
     let given = wanted(answer, n);
-    let back = shorts(out, said, reply, given, ws, q);
-    replied(out, back, reply, given, ws, q)
+    let mut said = first;
+    for way in 0..WAYS {
+        said = replied(out, said, reply, given, way, ws, q);
+    }
+    said
 }
 
-// Each on the state that the one before handed back.
-fn shorts(
+// A line for a reply: `go on workspace 3104 question 256 reply 32: J`.
+fn replied(
     out: &mut [u8],
     said: Said,
     reply: Reply,
     given: usize,
+    way: usize,
     ws: &mut [f64],
     q: &mut [f64],
 ) -> Said
     requires { ⌜ given ≤ 1024 ⌝ }
 {
-    let room = short_room(out, said, reply, given, ws, q);
-    let questions = short_questions(out, room, reply, given, ws, q);
-    replied(out, questions, reply, less(given), ws, q)
+    let asked = said.turn;
+    let place = said.place;
+    let room = less(ws.len(), way == 0);
+    let questions = less(q.len(), way == 1);
+    let values = less(given, way == 2);
+    let line = going(out, place, room, questions, values);
+    let turn = went_on(
+        asked.run,
+        reply,
+        values,
+        &mut ws[..room],
+        &mut q[..questions],
+    );
+    let answer = turn.answer;
+    Said {
+        turn,
+        place: told(out, line, answer),
+    }
 }
 
-fn short_room(
-    out: &mut [u8],
-    said: Said,
-    reply: Reply,
-    given: usize,
-    ws: &mut [f64],
-    q: &mut [f64],
-) -> Said
-    requires { ⌜ given ≤ 1024 ⌝ }
-{
-    let room = less(ws.len());
-    replied(out, said, reply, given, &mut ws[..room], q)
-}
-
-fn short_questions(
-    out: &mut [u8],
-    said: Said,
-    reply: Reply,
-    given: usize,
-    ws: &mut [f64],
-    q: &mut [f64],
-) -> Said
-    requires { ⌜ given ≤ 1024 ⌝ }
-{
-    let questions = less(q.len());
-    replied(out, said, reply, given, ws, &mut q[..questions])
-}
-
-fn less(n: usize) -> usize
+// One fewer where it is to be short.
+fn less(n: usize, short: bool) -> usize
     ensures { λ r. ⌜ r ≤ n ⌝ }
 {
-    if n == 0 { 0 } else { n - 1 }
+    if short && n > 0 { n - 1 } else { n }
 }
 
 fn suited(answer: Answer) -> Reply {
@@ -258,32 +258,10 @@ fn wanted(answer: Answer, n: usize) -> usize
     }
 }
 
-// A line for a reply: `go on workspace 3104 question 256 reply 32: J`.
-fn replied(
-    out: &mut [u8],
-    said: Said,
-    reply: Reply,
-    given: usize,
-    ws: &mut [f64],
-    q: &mut [f64],
-) -> Said
-    requires { ⌜ given ≤ 1024 ⌝ }
-{
-    let asked = said.turn;
-    let place = said.place;
-    let line = going(out, place, ws.len(), q.len(), given);
-    let turn = went_on(asked.run, reply, given, ws, q);
-    let answer = turn.answer;
-    Said {
-        turn,
-        place: told(out, line, answer),
-    }
-}
-
 fn going(out: &mut [u8], place: Place, room: usize, questions: usize, given: usize) -> Place {
-    let r = say::length(out, place, b"go on workspace ", room);
-    let q = say::length(out, r, b" question ", questions);
-    say::length(out, q, b" reply ", given)
+    let begun = text::put_bytes(out, place, b"go on");
+    let slices = both(out, begun, room, questions);
+    say::length(out, slices, b" reply ", given)
 }
 
 fn went_on(run: Run, reply: Reply, given: usize, ws: &mut [f64], q: &mut [f64]) -> Turn

@@ -4,6 +4,7 @@ mod drive;
 mod fields;
 mod forge;
 mod lengths;
+mod names;
 mod say;
 mod tally;
 
@@ -54,7 +55,7 @@ fn edges(out: &mut [u8]) {
     let ends = runs(out, lengths, &mut tally);
     let places = tally::places(out, ends, &tally);
     let counts = tally::counts(out, places, &tally);
-    say::flush(out, counts);
+    output::flush(out, counts);
 }
 
 fn main() {

@@ -2,17 +2,18 @@
 ghost use Prim.Native.Nat.{_≤_, _<_};
 use crate::forge;
 use crate::forge::FORGERIES;
+use crate::names;
 use crate::say;
 use std::num;
 use text::Place;
 
 // For each forgery and each of its sides: how often it was tried, how often answered rightly, how many slices changed.
 // Behind them, for each place at which a run waits: how often forgeries were tried there.
-pub const PLACES: usize = 6 * FORGERIES;
+pub(crate) const PLACES: usize = 6 * FORGERIES;
 
-pub const TALLY: usize = PLACES + forge::PLACES;
+pub(crate) const TALLY: usize = PLACES + forge::PLACES;
 
-pub fn note(tally: &mut [u64], at: usize, right: bool, changed: u64)
+pub(crate) fn note(tally: &mut [u64], at: usize, right: bool, changed: u64)
     requires { ⌜ at ≤ 200 ⌝ }
 {
     add(tally, at, 1);
@@ -24,7 +25,7 @@ fn once(right: bool) -> u64 {
     if right { 1 } else { 0 }
 }
 
-pub fn add(tally: &mut [u64], at: usize, more: u64) {
+pub(crate) fn add(tally: &mut [u64], at: usize, more: u64) {
     if at < tally.len() {
         let sum = num::wrapping_add_u64(tally[at], more);
         tally[at] = sum;
@@ -39,30 +40,30 @@ fn of(tally: &[u64], at: usize) -> u64 {
 }
 
 // A line for each forgery, and one for all of them.
-pub fn counts(out: &mut [u8], place: Place, tally: &[u64]) -> Place {
+pub(crate) fn counts(out: &mut [u8], place: Place, tally: &[u64]) -> Place {
     let mut sums = [0u64; 6];
     let mut p = place;
     for k in 0..FORGERIES {
         p = counted(out, p, tally, k);
         total(&mut sums, tally, k);
     }
-    let all = say::words(out, p, b"in all");
+    let all = text::put_bytes(out, p, b"in all");
     sides(out, all, &sums)
 }
 
 // How often forgeries were tried at each place, in the order in which `Awaited` lists them.
-pub fn places(out: &mut [u8], place: Place, tally: &[u64]) -> Place {
-    let mut p = say::words(out, place, b"answers by the place awaited:");
+pub(crate) fn places(out: &mut [u8], place: Place, tally: &[u64]) -> Place {
+    let mut p = text::put_bytes(out, place, b"answers by the place awaited:");
     for i in 0..forge::PLACES {
         p = say::count(out, p, b" ", of(tally, PLACES + i));
     }
-    say::words(out, p, b"\n")
+    text::put_bytes(out, p, b"\n")
 }
 
 fn counted(out: &mut [u8], place: Place, tally: &[u64], k: usize) -> Place
     requires { ⌜ k < 23 ⌝ }
 {
-    let name = forge::name(out, place, forge::numbered(k));
+    let name = names::name(out, place, k);
     let at = 6 * k;
     let end = at + 6;
     if end > tally.len() {
@@ -77,7 +78,7 @@ fn sides(out: &mut [u8], place: Place, t: &[u64]) -> Place {
     let whole = share(out, damaged, b", whole ", of(t, 1), of(t, 0));
     let slices = num::wrapping_add_u64(of(t, 2), of(t, 5));
     let changed = say::count(out, whole, b", slices changed ", slices);
-    say::words(out, changed, b"\n")
+    text::put_bytes(out, changed, b"\n")
 }
 
 fn share(out: &mut [u8], place: Place, s: &[u8], right: u64, tried: u64) -> Place {

@@ -1,5 +1,6 @@
 // What a run says, as a line: a question, a notice, the end or a refusal.
-use crate::sink;
+ghost use Prim.Native.Nat.{_≤_};
+use crate::fields;
 use crate::solver::Answer;
 use crate::solver::Kind;
 use crate::solver::Progress;
@@ -7,50 +8,90 @@ use crate::solver::Refusal;
 use crate::solver::Status;
 use text::Place;
 
-// `y` is the state that is asked about, and `step` has it with the coefficients behind.
-pub fn line(
+// `shown` is what of the question slice belongs into the line.
+pub(crate) fn line(
     out: &mut [u8],
     place: Place,
     answer: Answer,
     at: Progress,
-    y: &[f64],
-    step: &[f64],
+    shown: &[f64],
 ) -> Place {
-    let p = said(out, place, answer, at, y, step);
-    sink::byte(out, p, b'\n')
+    let said = fields(out, place, answer, at, shown);
+    text::put_byte(out, said, b'\n')
 }
 
-fn said(
-    out: &mut [u8],
-    place: Place,
-    answer: Answer,
-    at: Progress,
-    y: &[f64],
-    step: &[f64],
-) -> Place {
+fn fields(out: &mut [u8], place: Place, answer: Answer, at: Progress, shown: &[f64]) -> Place {
     match answer {
-        Answer::Derivative(x) => about(out, place, b'D', x, y),
-        Answer::Jacobian(x) => about(out, place, b'J', x, y),
-        Answer::Start(x) => about(out, place, b'I', x, y),
-        Answer::Step { old, new, start, h } => {
-            let from = about(out, place, b'S', old, &[new, start, h]);
-            sink::doubles(out, from, step)
-        }
         Answer::End { status, h } => end(out, place, status, h, at),
         Answer::Refused(why) => refused(out, place, why),
+        _ => about(out, place, answer, shown),
     }
 }
 
-fn about(out: &mut [u8], place: Place, letter: u8, x: f64, y: &[f64]) -> Place {
-    let l = sink::byte(out, place, letter);
-    let at = sink::next_double(out, l, x);
-    sink::doubles(out, at, y)
+// The state behind x; a step's notice has four numbers before it, and the coefficients behind.
+fn about(out: &mut [u8], place: Place, answer: Answer, shown: &[f64]) -> Place {
+    let letter = text::put_byte(out, place, letter_of(answer));
+    let first = fields::doubles(out, letter, &[first_of(answer)]);
+    let step = step_of(out, first, answer);
+    fields::doubles(out, step, shown)
+}
+
+fn letter_of(answer: Answer) -> u8 {
+    match answer {
+        Answer::Derivative(_) => b'D',
+        Answer::Jacobian(_) => b'J',
+        Answer::Start(_) => b'I',
+        _ => b'S',
+    }
+}
+
+fn first_of(answer: Answer) -> f64 {
+    match answer {
+        Answer::Derivative(x) => x,
+        Answer::Jacobian(x) => x,
+        Answer::Start(x) => x,
+        Answer::Step {
+            old,
+            new: _,
+            start: _,
+            h: _,
+        } => old,
+        _ => 0.0,
+    }
+}
+
+fn step_of(out: &mut [u8], place: Place, answer: Answer) -> Place {
+    match answer {
+        Answer::Step {
+            old: _,
+            new,
+            start,
+            h,
+        } => fields::doubles(out, place, &[new, start, h]),
+        _ => place,
+    }
+}
+
+// How many numbers of the question slice a line shows: the state stands in front, and a step's coefficients behind it.
+pub(crate) fn shown(answer: Answer, n: usize) -> usize
+    requires { ⌜ n ≤ 32 ⌝ }
+    ensures { λ r. ⌜ r ≤ 256 ⌝ }
+{
+    match answer {
+        Answer::Step {
+            old: _,
+            new: _,
+            start: _,
+            h: _,
+        } => 8 * n,
+        _ => n,
+    }
 }
 
 fn end(out: &mut [u8], place: Place, status: Status, h: f64, at: Progress) -> Place {
-    let e = sink::byte(out, place, b'E');
-    let s = sink::next_count(out, e, number(status));
-    let last = sink::next_double(out, s, h);
+    let e = text::put_byte(out, place, b'E');
+    let how = fields::next_count(out, e, status_number(status));
+    let last = fields::doubles(out, how, &[h]);
     let counts = [
         at.steps.total,
         at.steps.accepted,
@@ -59,10 +100,10 @@ fn end(out: &mut [u8], place: Place, status: Status, h: f64, at: Progress) -> Pl
         at.evals.jac,
         at.evals.lu,
     ];
-    sink::counts(out, last, &counts)
+    fields::counts(out, last, &counts)
 }
 
-fn number(status: Status) -> u64 {
+fn status_number(status: Status) -> u64 {
     match status {
         Status::Success => 0,
         Status::UserInterrupt => 1,
@@ -72,36 +113,26 @@ fn number(status: Status) -> u64 {
 }
 
 fn refused(out: &mut [u8], place: Place, why: Refusal) -> Place {
+    let number = fields::refusal(out, place, lines::number_of(why));
     match why {
-        Refusal::TooManyComponents => sink::refusal(out, place, 1),
-        Refusal::WorkspaceShort => sink::refusal(out, place, 2),
-        Refusal::QuestionShort => sink::refusal(out, place, 3),
-        Refusal::ToleranceShort => sink::refusal(out, place, 4),
         Refusal::NegativeTolerance { kind, index, value } => {
-            let which = sink::refusal(out, place, 5);
-            negative(out, which, kind, index, value)
+            negative(out, number, kind, index, value)
         }
-        Refusal::NoSteps => sink::refusal(out, place, 6),
-        Refusal::LimitTooLarge => sink::refusal(out, place, 7),
         Refusal::ZeroFirstStep { value, direction } => {
-            let step = sink::refusal(out, place, 8);
-            sink::doubles(out, step, &[value, direction])
+            fields::doubles(out, number, &[value, direction])
         }
-        Refusal::Damaged => sink::refusal(out, place, 9),
-        Refusal::HasEnded => sink::refusal(out, place, 10),
-        Refusal::WrongReply => sink::refusal(out, place, 11),
-        Refusal::SliceShort => sink::refusal(out, place, 12),
+        _ => number,
     }
 }
 
+// Which of the tolerances, the entry, and its value.
 fn negative(out: &mut [u8], place: Place, kind: Kind, index: usize, value: f64) -> Place {
-    let space = sink::byte(out, place, b' ');
-    let which = sink::byte(out, space, letter(kind));
-    let at = sink::next_count(out, which, index as u64);
-    sink::next_double(out, at, value)
+    let which = text::put_bytes(out, place, &[b' ', kind_letter(kind)]);
+    let at = fields::next_count(out, which, index as u64);
+    fields::doubles(out, at, &[value])
 }
 
-fn letter(kind: Kind) -> u8 {
+fn kind_letter(kind: Kind) -> u8 {
     match kind {
         Kind::Relative => b'r',
         Kind::Absolute => b'a',

@@ -12,7 +12,7 @@ const SCALAR: u64 = u64::MAX;
 
 const MOST: u64 = 64;
 
-pub struct Config {
+pub(crate) struct Config {
     pub settings: BDF,
     pub x0: f64,
     pub xend: f64,
@@ -22,94 +22,56 @@ pub struct Config {
 }
 
 // A tolerance, how many entries it has beside it, and where the words go on.
-pub struct Allowed {
+pub(crate) struct Allowed {
     pub tolerance: Tolerance,
     pub entries: usize,
     pub source: Source,
 }
 
-struct Setup {
-    settings: BDF,
-    x0: f64,
-    xend: f64,
-    source: Source,
-}
-
-// The settings that may be left unset.
-struct Options {
-    max_step: Setting,
-    min_step: Setting,
-    newton_tol: Setting,
-    first_step: Setting,
-    source: Source,
-}
-
-pub fn read(inp: &mut [u8], s: Source, rtols: &mut [f64], atols: &mut [f64]) -> Config
+pub(crate) fn read(inp: &mut [u8], s: Source, rtols: &mut [f64], atols: &mut [f64]) -> Config
     requires { ⌜ (length (now rtols) ≡ 64) × (length (now atols) ≡ 64) ⌝ }
     ensures { λ c. ⌜ (c .rtol .entries ≤ 64) × (c .atol .entries ≤ 64) ⌝ }
 {
-    let first = settled(inp, s);
-    let settings = first.settings;
-    let rtol = tolerance(inp, first.source, rtols);
+    let mut head = [0usize; 9];
+    let first = source::numbers(inp, s, &mut head);
+    let rtol = tolerance(inp, first, rtols);
     let atol = tolerance(inp, rtol.source, atols);
     let source = atol.source;
     Config {
-        settings,
-        x0: first.x0,
-        xend: first.xend,
+        settings: settings(&head),
+        x0: x0(&head),
+        xend: xend(&head),
         rtol,
         atol,
         source,
     }
 }
 
-fn settled(inp: &mut [u8], s: Source) -> Setup {
-    let max_steps = source::word(inp, s);
-    let newton_maxiter = source::word(inp, max_steps.source);
-    let flags = source::word(inp, newton_maxiter.source);
-    let x0 = source::word(inp, flags.source);
-    let xend = source::word(inp, x0.source);
-    let o = optional(inp, xend.source, flags.word);
-    let max_step = o.max_step;
-    let min_step = o.min_step;
-    let newton_tol = o.newton_tol;
-    let first_step = o.first_step;
-    let source = o.source;
-    let settings = BDF {
-        max_steps: max_steps.word as usize,
-        max_step,
-        min_step,
-        newton_maxiter: newton_maxiter.word as usize,
-        newton_tol,
-        first_step,
-    };
-    Setup {
-        settings,
-        x0: text::double(x0.word),
-        xend: text::double(xend.word),
-        source,
+// The nine words in front: max_steps, newton_maxiter, the flags, x0, xend, and then what each flag is for.
+fn settings(head: &[usize; 9]) -> BDF {
+    let flags = head[2];
+    BDF {
+        max_steps: head[0],
+        max_step: setting(flags, head[5]),
+        min_step: setting(flags / 2, head[6]),
+        newton_maxiter: head[1],
+        newton_tol: setting(flags / 4, head[7]),
+        first_step: setting(flags / 8, head[8]),
     }
 }
 
-fn optional(inp: &mut [u8], s: Source, flags: u64) -> Options {
-    let max_step = source::word(inp, s);
-    let min_step = source::word(inp, max_step.source);
-    let newton_tol = source::word(inp, min_step.source);
-    let first_step = source::word(inp, newton_tol.source);
-    let source = first_step.source;
-    Options {
-        max_step: setting(flags, max_step.word),
-        min_step: setting(flags / 2, min_step.word),
-        newton_tol: setting(flags / 4, newton_tol.word),
-        first_step: setting(flags / 8, first_step.word),
-        source,
-    }
+fn x0(head: &[usize; 9]) -> f64 {
+    text::double(head[3] as u64)
+}
+
+fn xend(head: &[usize; 9]) -> f64 {
+    text::double(head[4] as u64)
 }
 
 // Given where the last bit of the flags is set.
-fn setting(flags: u64, w: u64) -> Setting {
+fn setting(flags: usize, word: usize) -> Setting {
     if flags % 2 == 1 {
-        return Setting::Given(text::double(w));
+        return Setting::Given(text::double(word as u64));
     }
     Setting::Unset
 }

@@ -1,22 +1,12 @@
 // Kind 5: interpolation within a step.
-use crate::sink;
+use crate::fields;
 use crate::source;
-use crate::source::Source;
 use crate::state::State;
 use interpolation::Interpolation;
-use text::Place;
 
 const MOST: u64 = 64;
 
-// Where a value is wanted, the step that it lies in, and where the words go on.
-struct Asked {
-    xi: f64,
-    xold: f64,
-    h: f64,
-    source: Source,
-}
-
-pub fn interpolation(inp: &mut [u8], out: &mut [u8], s: State) -> State {
+pub(crate) fn interpolation(inp: &mut [u8], out: &mut [u8], s: State) -> State {
     let place = s.place;
     let size = source::count(inp, s.source, MOST);
     let source = size.source;
@@ -28,7 +18,8 @@ pub fn interpolation(inp: &mut [u8], out: &mut [u8], s: State) -> State {
     interpolate(inp, out, begun, &mut yi[..n], &mut cont[..coefficients])
 }
 
-// With room for just those components and their coefficients.
+// With room for just those components and their coefficients. Before them stand where a value is wanted, and the beginning and
+// the length of the step that it lies in.
 fn interpolate(
     inp: &mut [u8],
     out: &mut [u8],
@@ -37,41 +28,30 @@ fn interpolate(
     cont: &mut [f64],
 ) -> State {
     let place = s.place;
-    let asked = question(inp, s.source);
-    let t = source::doubles(inp, asked.source, yi);
-    let source = source::doubles(inp, t, cont);
-    if !source.fit {
-        return State { source, place };
-    }
-    State {
-        source,
-        place: line(out, place, asked, yi, cont),
-    }
-}
-
-fn question(inp: &mut [u8], s: Source) -> Asked {
-    let xi = source::word(inp, s);
+    let xi = source::word(inp, s.source);
     let xold = source::word(inp, xi.source);
     let h = source::word(inp, xold.source);
-    let source = h.source;
-    Asked {
-        xi: text::double(xi.word),
-        xold: text::double(xold.word),
-        h: text::double(h.word),
-        source,
-    }
+    let before = source::doubles(inp, h.source, yi);
+    let source = source::doubles(inp, before, cont);
+    let r = within(xi.word, xold.word, h.word, yi, cont);
+    fields::leaf(out, State { source, place }, number(r), yi)
 }
 
-fn line(out: &mut [u8], place: Place, asked: Asked, yi: &mut [f64], cont: &[f64]) -> Place {
-    let r = interpolation::interpolate(asked.xi, yi, cont, asked.xold, asked.h);
-    let said = interpolated(out, place, r, yi);
-    sink::byte(out, said, b'\n')
+fn within(xi: u64, xold: u64, h: u64, yi: &mut [f64], cont: &[f64]) -> Interpolation {
+    interpolation::interpolate(
+        text::double(xi),
+        yi,
+        cont,
+        text::double(xold),
+        text::double(h),
+    )
 }
 
-fn interpolated(out: &mut [u8], place: Place, r: Interpolation, yi: &[f64]) -> Place {
+// The number of the refusal, or 0.
+fn number(r: Interpolation) -> u64 {
     match r {
-        Interpolation::Interpolated => sink::doubles_alone(out, place, yi),
-        Interpolation::TooMany => sink::refusal(out, place, 1),
-        Interpolation::WrongLength => sink::refusal(out, place, 13),
+        Interpolation::Interpolated => 0,
+        Interpolation::TooMany => 1,
+        Interpolation::WrongLength => 13,
     }
 }

@@ -1,9 +1,8 @@
 // Kinds 3 and 4: an LU decomposition, and a solution with its factors. n is at most 33: one more than either takes, so that
 // a case can ask for the refusal.
 ghost use Prim.Native.Nat.{_≤_};
-use crate::sink;
+use crate::fields;
 use crate::source;
-use crate::source::Source;
 use crate::state::State;
 use matrix::Factoring;
 use matrix::Solution;
@@ -11,16 +10,27 @@ use text::Place;
 
 const MOST: u64 = 33;
 
-pub fn factoring(inp: &mut [u8], out: &mut [u8], s: State) -> State {
+// `solves` is false for an LU decomposition: then there is no right side.
+pub(crate) fn system(inp: &mut [u8], out: &mut [u8], s: State, solves: bool) -> State {
     let place = s.place;
     let size = source::count(inp, s.source, MOST);
     let source = size.source;
     let n = size.word as usize;
     let cells = square(n);
+    let sides = right_sides(n, solves);
     let mut a = [0.0f64; 1089];
     let mut ip = [0usize; 33];
+    let mut b = [0.0f64; 33];
     let begun = State { source, place };
-    factor(inp, out, begun, &mut a[..cells], &mut ip[..n])
+    within(
+        inp,
+        out,
+        begun,
+        solves,
+        &mut a[..cells],
+        &mut ip[..n],
+        &mut b[..sides],
+    )
 }
 
 fn square(n: usize) -> usize
@@ -30,88 +40,79 @@ fn square(n: usize) -> usize
     n * n
 }
 
-// With room for just that matrix and its pivots.
-fn factor(inp: &mut [u8], out: &mut [u8], s: State, a: &mut [f64], ip: &mut [usize]) -> State {
-    let place = s.place;
-    let source = read(inp, s.source, a, ip);
-    if !source.fit {
-        return State { source, place };
-    }
-    State {
-        source,
-        place: factor_line(out, place, a, ip),
-    }
-}
-
-// The pivots as they stand, and the matrix.
-fn read(inp: &mut [u8], s: Source, a: &mut [f64], ip: &mut [usize]) -> Source {
-    let t = source::numbers(inp, s, ip);
-    source::doubles(inp, t, a)
-}
-
-fn factor_line(out: &mut [u8], place: Place, a: &mut [f64], ip: &mut [usize]) -> Place {
-    let r = matrix::lu_decomp(a, ip);
-    let said = factored(out, place, r);
-    let pivots = sink::counts(out, said, ip);
-    let cells = sink::doubles(out, pivots, a);
-    sink::byte(out, cells, b'\n')
-}
-
-fn factored(out: &mut [u8], place: Place, r: Factoring) -> Place {
-    match r {
-        Factoring::Factored => {
-            let o = sink::byte(out, place, b'o');
-            sink::byte(out, o, b'k')
-        }
-        Factoring::WrongSize => sink::refusal(out, place, 14),
-        Factoring::Singular => sink::refusal(out, place, 15),
-    }
-}
-
-pub fn solution(inp: &mut [u8], out: &mut [u8], s: State) -> State {
-    let place = s.place;
-    let size = source::count(inp, s.source, MOST);
-    let source = size.source;
-    let n = size.word as usize;
-    let cells = square(n);
-    let mut a = [0.0f64; 1089];
-    let mut ip = [0usize; 33];
-    let mut b = [0.0f64; 33];
-    let begun = State { source, place };
-    solve(inp, out, begun, &mut a[..cells], &mut ip[..n], &mut b[..n])
+fn right_sides(n: usize, solves: bool) -> usize
+    ensures { λ r. ⌜ r ≤ n ⌝ }
+{
+    if solves { n } else { 0 }
 }
 
 // With room for just that matrix, its pivots and the right side.
-fn solve(
+fn within(
     inp: &mut [u8],
     out: &mut [u8],
     s: State,
+    solves: bool,
     a: &mut [f64],
     ip: &mut [usize],
     b: &mut [f64],
 ) -> State {
     let place = s.place;
-    let t = read(inp, s.source, a, ip);
-    let source = source::doubles(inp, t, b);
-    if !source.fit {
-        return State { source, place };
+    let pivots = source::numbers(inp, s.source, ip);
+    let cells = source::doubles(inp, pivots, a);
+    let source = source::doubles(inp, cells, b);
+    let read = State { source, place };
+    if solves {
+        return solved(out, read, a, ip, b);
     }
+    factored(out, read, a, ip)
+}
+
+fn solved(out: &mut [u8], s: State, a: &[f64], ip: &[usize], b: &mut [f64]) -> State {
+    let r = matrix::lin_solve(a, b, ip);
+    fields::leaf(out, s, solution_number(r), b)
+}
+
+fn factored(out: &mut [u8], s: State, a: &mut [f64], ip: &mut [usize]) -> State {
+    let source = s.source;
+    let place = s.place;
+    if !source.fit {
+        return s;
+    }
+    let r = matrix::lu_decomp(a, ip);
     State {
         source,
-        place: solve_line(out, place, a, ip, b),
+        place: factors(out, place, factoring_number(r), a, ip),
     }
 }
 
-fn solve_line(out: &mut [u8], place: Place, a: &[f64], ip: &[usize], b: &mut [f64]) -> Place {
-    let r = matrix::lin_solve(a, b, ip);
-    let said = solved(out, place, r, b);
-    sink::byte(out, said, b'\n')
+// The line of a decomposition: how it went, and then the pivots and the matrix as they stand.
+fn factors(out: &mut [u8], place: Place, number: u64, a: &[f64], ip: &[usize]) -> Place {
+    let went = verdict(out, place, number);
+    let pivots = fields::counts(out, went, ip);
+    let cells = fields::doubles(out, pivots, a);
+    text::put_byte(out, cells, b'\n')
 }
 
-fn solved(out: &mut [u8], place: Place, r: Solution, b: &[f64]) -> Place {
+fn verdict(out: &mut [u8], place: Place, number: u64) -> Place {
+    if number == 0 {
+        return text::put_bytes(out, place, b"ok");
+    }
+    fields::refusal(out, place, number)
+}
+
+// The number of the refusal, or 0.
+fn factoring_number(r: Factoring) -> u64 {
     match r {
-        Solution::Solved => sink::doubles_alone(out, place, b),
-        Solution::WrongSize => sink::refusal(out, place, 14),
-        Solution::PivotOutside => sink::refusal(out, place, 16),
+        Factoring::Factored => 0,
+        Factoring::WrongSize => 14,
+        Factoring::Singular => 15,
+    }
+}
+
+fn solution_number(r: Solution) -> u64 {
+    match r {
+        Solution::Solved => 0,
+        Solution::WrongSize => 14,
+        Solution::PivotOutside => 16,
     }
 }

@@ -3,33 +3,35 @@
 mod answer;
 mod config;
 mod dense;
+mod fields;
 mod linear;
 mod refused;
 mod reply;
-mod roots;
+mod root;
 mod run;
-mod sink;
 mod solver;
 mod source;
 mod state;
 
 use state::State;
 
-// One case: its kind, and then what the kind calls for.
+// One case: its kind, and then what the kind calls for. A leaf writes one line, for which room is made here.
 fn case(inp: &mut [u8], out: &mut [u8], s: State) -> State {
-    let place = s.place;
+    let before = s.place;
+    let place = output::roomy(out, before, fields::LINE);
     let taken = source::word(inp, s.source);
     let source = taken.source;
-    let kind = taken.word;
-    let begun = State { source, place };
+    of_kind(inp, out, State { source, place }, taken.word)
+}
+
+fn of_kind(inp: &mut [u8], out: &mut [u8], s: State, kind: u64) -> State {
     match kind {
-        0 => run::run(inp, out, begun),
-        1 => roots::square_root(inp, out, begun),
-        2 => roots::inverse_root(inp, out, begun),
-        3 => linear::factoring(inp, out, begun),
-        4 => linear::solution(inp, out, begun),
-        5 => dense::interpolation(inp, out, begun),
-        _ => state::unfit(begun),
+        0 => run::run(inp, out, s),
+        1 => root::square_root(inp, out, s),
+        2 => root::inverse_root(inp, out, s),
+        3 | 4 => linear::system(inp, out, s, kind == 4),
+        5 => dense::interpolation(inp, out, s),
+        _ => state::unfit(s),
     }
 }
 
@@ -44,7 +46,7 @@ fn replay(inp: &mut [u8], out: &mut [u8]) {
         turns -= 1;
     }
     let place = s.place;
-    sink::flush(out, place);
+    output::flush(out, place);
 }
 
 fn main() {

@@ -6,7 +6,26 @@ use crate::solver::Reply;
 use crate::solver::Run;
 use crate::solver::Turn;
 
-fn unsuited(reply: Reply) -> Reply {
+pub(crate) fn go_on(run: Run, reply: Reply, values: &[f64], ws: &mut [f64], q: &mut [f64]) -> Turn {
+    let unsuited = handed_back(run, other(reply), values, ws, q);
+    let short = short_of_room(unsuited, reply, values, q);
+    let broken = handed_back(damaged(short), reply, values, ws, q);
+    solver::go_on(short, reply, values, ws, q)
+}
+
+// The state that comes back from a call.
+fn handed_back(run: Run, reply: Reply, values: &[f64], ws: &mut [f64], q: &mut [f64]) -> Run {
+    let turn = solver::go_on(run, reply, values, ws, q);
+    turn.run
+}
+
+// No run has room in one number.
+fn short_of_room(run: Run, reply: Reply, values: &[f64], q: &mut [f64]) -> Run {
+    let mut ws = [0.0f64; 1];
+    handed_back(run, reply, values, &mut ws, q)
+}
+
+fn other(reply: Reply) -> Reply {
     match reply {
         Reply::Values => Reply::Continue,
         _ => Reply::Values,
@@ -18,22 +37,4 @@ fn damaged(run: Run) -> Run {
     let mut at = run.at;
     at.order = 0;
     Run { awaited, at }
-}
-
-// The state that two refusals hand back, one after the other.
-fn handed_back(run: Run, reply: Reply, values: &[f64], ws: &mut [f64], q: &mut [f64]) -> Run {
-    let unfit = solver::go_on(run, unsuited(reply), values, ws, q);
-    let short = solver::go_on(unfit.run, reply, values, &mut ws[..0], q);
-    short.run
-}
-
-// The reply itself, once a damaged copy of the state has been refused.
-fn past_damage(run: Run, reply: Reply, values: &[f64], ws: &mut [f64], q: &mut [f64]) -> Turn {
-    let broken = solver::go_on(damaged(run), reply, values, ws, q);
-    solver::go_on(run, reply, values, ws, q)
-}
-
-pub fn go_on(run: Run, reply: Reply, values: &[f64], ws: &mut [f64], q: &mut [f64]) -> Turn {
-    let back = handed_back(run, reply, values, ws, q);
-    past_damage(back, reply, values, ws, q)
 }

@@ -5,6 +5,7 @@ ghost use lib.ListN.{length};
 use crate::answer;
 use crate::config;
 use crate::config::Config;
+use crate::fields::LINE;
 use crate::refused;
 use crate::reply;
 use crate::solver;
@@ -13,6 +14,7 @@ use crate::solver::Turn;
 use crate::source;
 use crate::state;
 use crate::state::State;
+use text::Place;
 
 const MOST: u64 = 64;
 
@@ -22,7 +24,7 @@ struct Said {
     turn: Turn,
 }
 
-pub fn run(inp: &mut [u8], out: &mut [u8], s: State) -> State {
+pub(crate) fn run(inp: &mut [u8], out: &mut [u8], s: State) -> State {
     let place = s.place;
     let size = source::count(inp, s.source, MOST);
     let source = size.source;
@@ -32,41 +34,34 @@ pub fn run(inp: &mut [u8], out: &mut [u8], s: State) -> State {
     configured(inp, out, begun, &mut y[..n])
 }
 
-// With room for just those components.
+// With room for just those components. Where the words broke off nothing is said of what was begun with them.
 fn configured(inp: &mut [u8], out: &mut [u8], s: State, y: &mut [f64]) -> State {
     let place = s.place;
     let mut rtols = [0.0f64; 64];
     let mut atols = [0.0f64; 64];
-    let c = config::read(inp, s.source, &mut rtols, &mut atols);
-    let source = source::doubles(inp, c.source, y);
-    let state = State { source, place };
-    if !source.fit {
-        return state;
-    }
-    begun(inp, out, state, c, y, &rtols, &atols)
-}
-
-// The run's first answer, and the turns that follow.
-fn begun(
-    inp: &mut [u8],
-    out: &mut [u8],
-    state: State,
-    c: Config,
-    y: &[f64],
-    rtols: &[f64],
-    atols: &[f64],
-) -> State
-    requires { ⌜ (c .rtol .entries ≤ length (now rtols)) × (c .atol .entries ≤ length (now atols)) ⌝ }
-{
     let mut ws = [0.0f64; 3104];
     let mut q = [0.0f64; 256];
+    let c = config::read(inp, s.source, &mut rtols, &mut atols);
+    let source = source::doubles(inp, c.source, y);
+    let turn = begun(c, y, &rtols, &atols, &mut ws, &mut q);
+    let said = Said {
+        state: State { source, place },
+        turn,
+    };
+    turns(inp, out, said, at_most_32(y.len()), &mut ws, &mut q)
+}
+
+// The run's first answer.
+fn begun(c: Config, y: &[f64], rtols: &[f64], atols: &[f64], ws: &mut [f64], q: &mut [f64]) -> Turn
+    requires { ⌜ (c .rtol .entries ≤ length (now rtols)) × (c .atol .entries ≤ length (now atols)) ⌝ }
+{
     let r = c.rtol;
     let a = c.atol;
     let rtol = r.tolerance;
     let atol = a.tolerance;
     let relative = r.entries;
     let absolute = a.entries;
-    let turn = solver::begin(
+    solver::begin(
         c.settings,
         c.x0,
         y,
@@ -75,11 +70,9 @@ fn begun(
         &rtols[..relative],
         atol,
         &atols[..absolute],
-        &mut ws,
-        &mut q,
-    );
-    let said = Said { state, turn };
-    turns(inp, out, said, at_most_32(y.len()), &mut ws, &mut q)
+        ws,
+        q,
+    )
 }
 
 // More components than 32 the solver refuses: then it asks nothing, and no number of them is wanted.
@@ -134,9 +127,10 @@ fn turn(
 ) -> Said
     requires { ⌜ (n ≤ 32) × ((length (now values) ≡ 1024) × (length (now q) ≡ 256)) ⌝ }
 {
+    let state = said.state;
     let asked = said.turn;
-    let state = line(out, said.state, asked, n, q);
-    let place = state.place;
+    let before = state.place;
+    let place = line(out, before, asked, n, q);
     let answer = asked.answer;
     let replied = reply::read(inp, state.source, answer, n, values);
     let source = replied.source;
@@ -157,20 +151,21 @@ fn last(out: &mut [u8], said: Said, n: usize, q: &[f64]) -> State
     if !state::stands(state) {
         return state;
     }
-    line(out, state, said.turn, n, q)
-}
-
-// A line for what the run said: a question has the state in front, and a step's notice the coefficients behind it.
-fn line(out: &mut [u8], s: State, said: Turn, n: usize, q: &[f64]) -> State
-    requires { ⌜ (n ≤ 32) × (length (now q) ≡ 256) ⌝ }
-{
-    let source = s.source;
-    let place = s.place;
-    let answer = said.answer;
-    let run = said.run;
-    let step = 8 * n;
+    let source = state.source;
+    let place = state.place;
     State {
         source,
-        place: answer::line(out, place, answer, run.at, &q[..n], &q[..step]),
+        place: line(out, place, said.turn, n, q),
     }
+}
+
+// A line for what the run said.
+fn line(out: &mut [u8], before: Place, said: Turn, n: usize, q: &[f64]) -> Place
+    requires { ⌜ (n ≤ 32) × (length (now q) ≡ 256) ⌝ }
+{
+    let place = output::roomy(out, before, LINE);
+    let answer = said.answer;
+    let run = said.run;
+    let shown = answer::shown(answer, n);
+    answer::line(out, place, answer, run.at, &q[..shown])
 }

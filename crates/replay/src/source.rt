@@ -7,18 +7,18 @@ use text::Word;
 
 // Where the next word stands, and where what was read ends. `fit` is false once a word was missing, or was no kind or
 // too large for a count: from then on every word is 0, so that a case is read to its end before anyone asks.
-pub struct Source {
+pub(crate) struct Source {
     pub at: usize,
     pub end: usize,
     pub fit: bool,
 }
 
-pub struct Taken {
+pub(crate) struct Taken {
     pub word: u64,
     pub source: Source,
 }
 
-pub fn begin() -> Source {
+pub(crate) fn begin() -> Source {
     Source {
         at: 0,
         end: 0,
@@ -27,7 +27,7 @@ pub fn begin() -> Source {
 }
 
 // Where all that was read is taken, reads on. At the input's end nothing is left afterwards.
-pub fn filled(inp: &mut [u8], s: Source) -> Source {
+pub(crate) fn filled(inp: &mut [u8], s: Source) -> Source {
     if s.at < s.end {
         return s;
     }
@@ -39,7 +39,7 @@ pub fn filled(inp: &mut [u8], s: Source) -> Source {
     }
 }
 
-pub fn unfit(s: Source) -> Source {
+pub(crate) fn unfit(s: Source) -> Source {
     Source {
         at: s.at,
         end: s.end,
@@ -48,7 +48,7 @@ pub fn unfit(s: Source) -> Source {
 }
 
 // The next word. Fewer than eight bytes are no word.
-pub fn word(inp: &mut [u8], s: Source) -> Taken {
+pub(crate) fn word(inp: &mut [u8], s: Source) -> Taken {
     if !s.fit {
         return missing(s);
     }
@@ -84,13 +84,13 @@ fn missing(s: Source) -> Taken
 }
 
 // A count of at most `most`; 0 where the word is larger.
-pub fn count(inp: &mut [u8], s: Source, most: u64) -> Taken
+pub(crate) fn count(inp: &mut [u8], s: Source, most: u64) -> Taken
     ensures { λ r. ⌜ r .word ≤ most ⌝ }
 {
     at_most(word(inp, s), most)
 }
 
-pub fn at_most(t: Taken, most: u64) -> Taken
+pub(crate) fn at_most(t: Taken, most: u64) -> Taken
     ensures { λ r. ⌜ r .word ≤ most ⌝ }
 {
     if t.word > most {
@@ -100,7 +100,7 @@ pub fn at_most(t: Taken, most: u64) -> Taken
 }
 
 // A double for each place of `to`.
-pub fn doubles(inp: &mut [u8], s: Source, to: &mut [f64]) -> Source {
+pub(crate) fn doubles(inp: &mut [u8], s: Source, to: &mut [f64]) -> Source {
     let mut source = s;
     for i in 0..to.len() {
         let t = word(inp, source);
@@ -111,7 +111,7 @@ pub fn doubles(inp: &mut [u8], s: Source, to: &mut [f64]) -> Source {
 }
 
 // A whole number for each place of `to`, as large as it may be.
-pub fn numbers(inp: &mut [u8], s: Source, to: &mut [usize]) -> Source {
+pub(crate) fn numbers(inp: &mut [u8], s: Source, to: &mut [usize]) -> Source {
     let mut source = s;
     for i in 0..to.len() {
         let t = word(inp, source);

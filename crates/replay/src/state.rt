@@ -1,15 +1,15 @@
 // Where a replay stands between two cases: in the words that come in and in the text that goes out.
-use crate::sink;
+use crate::fields::LINE;
 use crate::source;
 use crate::source::Source;
 use text::Place;
 
-pub struct State {
+pub(crate) struct State {
     pub source: Source,
     pub place: Place,
 }
 
-pub fn begin(inp: &mut [u8]) -> State {
+pub(crate) fn begin(inp: &mut [u8]) -> State {
     State {
         source: source::filled(inp, source::begin()),
         place: Place::At(0),
@@ -17,7 +17,7 @@ pub fn begin(inp: &mut [u8]) -> State {
 }
 
 // Whether another case begins.
-pub fn goes_on(s: State) -> bool {
+pub(crate) fn goes_on(s: State) -> bool {
     let source = s.source;
     if source.at >= source.end {
         return false;
@@ -26,17 +26,17 @@ pub fn goes_on(s: State) -> bool {
 }
 
 // Whether what came in was fit so far, and what went out was written.
-pub fn stands(s: State) -> bool {
+pub(crate) fn stands(s: State) -> bool {
     let source = s.source;
     let place = s.place;
     if !source.fit {
         return false;
     }
-    sink::has_room(place)
+    text::stands(place)
 }
 
 // After a case: a stream that is none ends in a line `X`; otherwise the next case is looked for.
-pub fn next(inp: &mut [u8], out: &mut [u8], s: State) -> State {
+pub(crate) fn next(inp: &mut [u8], out: &mut [u8], s: State) -> State {
     let source = s.source;
     let place = s.place;
     if source.fit {
@@ -45,14 +45,14 @@ pub fn next(inp: &mut [u8], out: &mut [u8], s: State) -> State {
             place,
         };
     }
-    let x = sink::byte(out, place, b'X');
+    let roomy = output::roomy(out, place, LINE);
     State {
         source,
-        place: sink::byte(out, x, b'\n'),
+        place: text::put_bytes(out, roomy, b"X\n"),
     }
 }
 
-pub fn unfit(s: State) -> State {
+pub(crate) fn unfit(s: State) -> State {
     let source = s.source;
     let place = s.place;
     State {

@@ -54,7 +54,8 @@ aimAt direction order x h =
 abbrev pub aimOf : Progress → Float → Aim
 aimOf p h = aimAt (p .span .direction) (p .order) (p .x) h
 
--- the way that leads past xend is cut to end there; where nothing is left of it, the run is at its end
+-- A way that leads past xend is cut to what is left of it, which rounding may leave an ulp short or beyond; where nothing is left, the
+-- run is at its end
 unfoldable pub cutAtEnd : Progress → List Float → Left Aimed
 cutAtEnd p ws =
     let stepToEnd = absOf (p .span .xend ⊖ p .x) in

@@ -3,7 +3,6 @@ ghost use mathlib.Core.Path.{_≡_};
 ghost use Prim.Native.Nat.{_*_, _≤_};
 ghost use lib.ListN.{length};
 ghost use Rattle.matrix.specs.Size.{maxN};
-use crate::sink;
 use bdf::begin;
 use bdf::go_on;
 use bdf::types::Answer;
@@ -21,18 +20,21 @@ const WORKSPACE: usize = 2 * CELLS + 33 * MAX_N;
 
 const QUESTION: usize = 8 * MAX_N;
 
+// Room for any line: a step's, the longest, has 33 doubles of 17 bytes.
+const LINE: usize = 1024;
+
 // What the run said last, and where the next line goes.
 struct Said {
     turn: Turn,
     place: Place,
 }
 
-pub fn run(file: &[u8], out: &mut [u8]) -> Place {
+pub(crate) fn run(file: &[u8], out: &mut [u8]) -> Place {
     let mut y0 = [0.0f64; MAX_N];
     let mut a = [0.0f64; CELLS];
     match job::read(file, &mut y0, &mut a) {
         Reading::Read(j) => sized(out, j, &y0, &a),
-        Reading::Refused(number) => sink::refusal(out, Place::At(0), number),
+        Reading::Refused(number) => lines::refusal_line(out, Place::At(0), number),
     }
 }
 
@@ -100,7 +102,7 @@ fn goes_on(said: Said) -> bool {
     match answer {
         Answer::End { status: _, h: _ } => false,
         Answer::Refused(_) => false,
-        _ => sink::has_room(place),
+        _ => text::stands(place),
     }
 }
 
@@ -126,46 +128,58 @@ fn turn(
     }
 }
 
-fn noticed(out: &mut [u8], place: Place, answer: Answer, y: &[f64]) -> Place {
+fn noticed(out: &mut [u8], before: Place, answer: Answer, y: &[f64]) -> Place {
+    let place = output::roomy(out, before, LINE);
     match answer {
-        Answer::Start(x) => sink::start(out, place, x, y),
+        Answer::Start(x) => lines::start_line(out, place, x, y),
         Answer::Step {
             old: _,
             new,
             start: _,
             h: _,
-        } => sink::step(out, place, new, y),
+        } => lines::step_line(out, place, new, y),
         _ => place,
     }
 }
 
-// A y to a question for the derivative, A to one for the Jacobian, and on from a notice.
+// A y to a question for the derivative, A to one for the Jacobian, and on from a notice, to which no numbers belong.
 fn replied(asked: Turn, a: &[f64], dy: &mut [f64], ws: &mut [f64], q: &mut [f64]) -> Turn
     requires { ⌜ (length (now dy) ≤ maxN) × (length (now q) ≡ 8 * maxN) ⌝ }
 {
-    let run = asked.run;
     let answer = asked.answer;
+    let n = dy.len();
+    if wants_derivative(answer) {
+        job::right_side(a, &q[..n], dy);
+        return go_on(asked.run, Reply::Values, dy, ws, q);
+    }
+    go_on(asked.run, suited(answer), a, ws, q)
+}
+
+fn wants_derivative(answer: Answer) -> bool {
     match answer {
-        Answer::Derivative(_) => {
-            let n = dy.len();
-            job::right_side(a, &q[..n], dy);
-            go_on(run, Reply::Values, dy, ws, q)
-        }
-        Answer::Jacobian(_) => go_on(run, Reply::Values, a, ws, q),
-        _ => go_on(run, Reply::Continue, &[], ws, q),
+        Answer::Derivative(_) => true,
+        _ => false,
+    }
+}
+
+fn suited(answer: Answer) -> Reply {
+    match answer {
+        Answer::Jacobian(_) => Reply::Values,
+        _ => Reply::Continue,
     }
 }
 
 // The line of the end, or of a refusal.
 fn last(out: &mut [u8], said: Said) -> Place {
     let turn = said.turn;
-    let place = said.place;
+    let before = said.place;
+    let place = output::roomy(out, before, LINE);
     let run = turn.run;
     let at = run.at;
     let answer = turn.answer;
     match answer {
-        Answer::End { status, h } => sink::end(out, place, status, h, at.steps, at.evals),
-        Answer::Refused(why) => sink::refusal(out, place, lines::number_of(why)),
+        Answer::End { status, h } => lines::end_line(out, place, status, h, at.steps, at.evals),
+        Answer::Refused(why) => lines::refusal_line(out, place, lines::number_of(why)),
         _ => place,
     }
 }

@@ -1,4 +1,5 @@
 -- A page: the place where the next text goes, beside the bytes. Text is put on it whole, or not begun.
+use mathlib.Core.Bool.{Bool, true, false}
 use mathlib.Core.List.{List, _++_}
 use Prim.Native.Nat.{ℕ, _+_}
 use lib.Dec.{leb}
@@ -9,6 +10,11 @@ use Rattle.text.specs.declared.page.Place.the-variants.{At, Full}
 
 abbrev pub Page : Type 0
 Page = Place × List ℕ
+
+-- a page that is not full
+abbrev pub standsOf : Place → Bool
+standsOf (At at) = true
+standsOf Full = false
 
 -- The text t put on a page: at its place, over what stood there. Where there is no room for the whole of it the page is
 -- full, and a full page stays as it is.

@@ -7,12 +7,22 @@ ghost use lib.Dec.{leb};
 ghost use lib.ListN.{length, take, drop};
 ghost use Rattle.text.specs.Digits.{spelled, placesOf, decimal, hexadecimal};
 ghost use Rattle.text.specs.Digits.{digit as digitOf};
-ghost use Rattle.text.specs.Page.{puts};
+ghost use Rattle.text.specs.Page.{puts, standsOf};
 use crate::bits;
 
 pub enum Place {
     At(usize),
     Full,
+}
+
+// Whether the next text has a place: false on a full page.
+pub fn stands(place: Place) -> bool
+    ensures { λ r. ⌜ r ≡ standsOf place ⌝ }
+{
+    match place {
+        Place::At(_) => true,
+        Place::Full => false,
+    }
 }
 
 // One byte: a letter, a space, a line's end.
@@ -28,6 +38,32 @@ pub fn put_byte(out: &mut [u8], place: Place, b: u8) -> Place
             Place::Full
         }
         Place::Full => Place::Full,
+    }
+}
+
+// Bytes: words as they stand.
+pub fn put_bytes(out: &mut [u8], place: Place, s: &[u8]) -> Place
+    ensures { λ r. ⌜ (r, now (out .exit)) ≡ puts (now (s .entry)) (place, now (out .entry)) ⌝ }
+{
+    match place {
+        Place::At(at) => {
+            if has_room(out.len(), at, s.len()) {
+                lay(out, at, s);
+                return Place::At(at + s.len());
+            }
+            Place::Full
+        }
+        Place::Full => Place::Full,
+    }
+}
+
+// Byte by byte over what stood there.
+fn lay(out: &mut [u8], at: usize, s: &[u8])
+    requires { ⌜ at + length (now s) ≤ length (now out) ⌝ }
+    ensures { λ _. ⌜ now (out .exit) ≡ take at (now (out .entry)) ++ (now (s .entry) ++ drop (at + length (now (s .entry))) (now (out .entry))) ⌝ }
+{
+    for i in 0..s.len() {
+        out[at + i] = s[i];
     }
 }
 

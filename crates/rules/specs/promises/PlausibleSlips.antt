@@ -1,4 +1,6 @@
--- What a plausible slip would change. Each law here names one thing that is easily got otherwise, and fails where it is.
+-- What a plausible slip would change. Each law here names one thing that is easily got otherwise, and fails where it is. Of the slips
+-- that document 01 lists, the reported old x and the first of equal factors are here; ru transposed is RowSumLaw's, the start's hidden
+-- evaluation Demand3's, a NaN let through by min or max `number`'s, and D[0] told for the new y the code's contract's.
 use mathlib.Core.Path.{_≡_, refl, sym, ap, _∙_}
 use mathlib.Core.List.{List, [], _∷_}
 use mathlib.Core.Bool.{Bool, true, false, false≢true}
@@ -96,8 +98,8 @@ only-at-its-end t (ends NeedLargerNMax e cause within m) s = absurd (false≢tru
 only-at-its-end t (ends StepSizeTooSmall e cause within m) s = absurd (false≢true (sym (ap (λ (u : Turn). isSuccess (u .answer)) e) ∙ s))
 only-at-its-end t (asks e fresh within m) s = absurd (false≢true (sym (ap (λ (u : Turn). isSuccess (u .answer)) e) ∙ s))
 
--- it meets no test for Success: where the run then ends as Success, nothing at all is left of its way. (A start that was modified
--- beyond xend goes back.)
+-- it meets no test for Success: where the run then ends as Success, nothing at all is left of its way. (From beyond xend it goes on,
+-- away from it.)
 pub no-success-beyond :
     (p : Progress) (values ws q : List Float) → p .steps .total ≤ p .limits .steps → isSuccess (restartJacobian p values ws q .is .answer) ≡ true →
     Cause Success (restartJacobian p values ws q .is .run .at)

@@ -1,7 +1,7 @@
 -- The job that document 01 prints whole: one component, 100,000 steps, Newton 4, from 0 to 1, first step 0.5, tolerances 1e-3 and
 -- 1e-6, y0 = 1, A = 0. The caller answers every derivative and Jacobian with 0 and continues at every notice; the notices and the
--- end that the definitions then compute are what 01 prints. Beside it two exchanges that 01 does not print: the same with one step
--- allowed, and with y' = 1 in place of y' = 0, where y moves.
+-- end that the definitions then compute are what 01 prints. Beside it the same with one step
+-- allowed, whose last line 01 prints too; and, not printed there, with y' = 1 in place of y' = 0, where y moves.
 use mathlib.Core.Path.{_≡_, refl}
 use mathlib.Core.Bool.{false}
 use mathlib.Core.List.{List, [], _∷_}

@@ -1,13 +1,14 @@
 -- The contracts of this crate leave no choice: two outcomes that meet one of them, from the same call, are the same answer and the
 -- same bytes left on the page. Each `Meets..` is the equation that the code's contract states.
 use mathlib.Core.Path.{_≡_, sym, ap, _∙_}
+use mathlib.Core.Bool.{Bool}
 use mathlib.Core.List.{List, [], _∷_}
 use Prim.Native.Nat.{ℕ}
 use lib.Ieee.{Float, binary64, toBits, ofBits}
 use Rattle.text.specs.declared.page.Place.{Place}
 use Rattle.text.specs.declared.word.Word.{Word}
 use Rattle.text.specs.Digits.{placesOf, decimal, hexadecimal}
-use Rattle.text.specs.Page.{Page, puts}
+use Rattle.text.specs.Page.{Page, puts, standsOf}
 use Rattle.text.specs.Words.{wordAt}
 
 -- ---- text put on a page: one lemma over the text
@@ -22,6 +23,9 @@ module _ (page : Page) {r s : Place} {out other : List ℕ} where
   pub put-byte-unique : (b : ℕ) → MeetsPut (b ∷ []) page r out → MeetsPut (b ∷ []) page s other → (r ≡ s) × (out ≡ other)
   put-byte-unique b = put-unique (b ∷ [])
 
+  pub put-bytes-unique : (t : List ℕ) → MeetsPut t page r out → MeetsPut t page s other → (r ≡ s) × (out ≡ other)
+  put-bytes-unique t = put-unique t
+
   pub put-count-unique : (n : ℕ) → MeetsPut (decimal n) page r out → MeetsPut (decimal n) page s other → (r ≡ s) × (out ≡ other)
   put-count-unique n = put-unique (decimal n)
 
@@ -29,6 +33,12 @@ module _ (page : Page) {r s : Place} {out other : List ℕ} where
   put-double-unique x = put-unique (hexadecimal x)
 
 -- ---- the others give one value
+
+abbrev pub MeetsStands : Place → Bool → Type 0
+MeetsStands place r = r ≡ standsOf place
+
+pub stands-unique : (place : Place) {r s : Bool} → MeetsStands place r → MeetsStands place s → r ≡ s
+stands-unique place m o = m ∙ sym o
 
 abbrev pub MeetsPlaces : ℕ → ℕ → Type 0
 MeetsPlaces n r = r ≡ placesOf n

@@ -1,7 +1,7 @@
 -- `edges::drive::within` is safe: there are as many components as n says, at most 32. Assumes nothing.
 use native.Mathlib.Omega.{arith}
 use borrow.Author.Needs.{needs}
-use Rattle.edges.proofs.Front.{front-of-repeat}
+use Rattle.text.specs.laws.Fronts.{front-of-repeat}
 use Rattle.edges.proofs.drive.within.Statement.{statement}
 use Rattle.edges.proofs.drive.within.Tie as tie
 

@@ -1,7 +1,7 @@
 -- `edges::lengths::begun` is safe: each slice is as long as its count says, which the arrays reach. Assumes nothing.
 use native.Mathlib.Omega.{arith}
 use borrow.Author.Needs.{needs}
-use Rattle.edges.proofs.Front.{front-of-repeat}
+use Rattle.text.specs.laws.Fronts.{front-of-repeat}
 use Rattle.edges.proofs.lengths.begun.Statement.{statement}
 use Rattle.edges.proofs.lengths.begun.Tie as tie
 

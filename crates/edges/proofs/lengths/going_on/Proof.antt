@@ -1,7 +1,7 @@
 -- `edges::lengths::going_on` is safe: both slices are as long as their counts say, which the arrays reach. Assumes nothing.
 use native.Mathlib.Omega.{arith}
 use borrow.Author.Needs.{needs}
-use Rattle.edges.proofs.Front.{front-of-repeat}
+use Rattle.text.specs.laws.Fronts.{front-of-repeat}
 use Rattle.edges.proofs.lengths.going_on.Statement.{statement}
 use Rattle.edges.proofs.lengths.going_on.Tie as tie
 

@@ -1,7 +1,7 @@
 -- `edges::lengths::wanted` meets its contract: with at most 32 components a Jacobian has at most 1024 cells. Assumes nothing.
 use native.Mathlib.Omega.{arith}
 use borrow.Author.Needs.{needs}
-use Rattle.edges.proofs.Square.{squared}
+use Rattle.text.specs.laws.Fronts.{squared}
 use Rattle.edges.proofs.lengths.wanted.Statement.{statement}
 use Rattle.edges.proofs.lengths.wanted.Tie as tie
 

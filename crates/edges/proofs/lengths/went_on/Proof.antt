@@ -1,7 +1,7 @@
 -- `edges::lengths::went_on` is safe: the reply's slice is as long as its count says. Assumes nothing.
 use native.Mathlib.Omega.{arith}
 use borrow.Author.Needs.{needs}
-use Rattle.edges.proofs.Front.{front-of-repeat}
+use Rattle.text.specs.laws.Fronts.{front-of-repeat}
 use Rattle.edges.proofs.lengths.went_on.Statement.{statement}
 use Rattle.edges.proofs.lengths.went_on.Tie as tie
 

@@ -1,6 +1,6 @@
 -- `replay::dense::interpolation` is safe: n is at most 64, and the arrays have room for n components and 7 n coefficients. Assumes nothing.
 use native.Mathlib.Omega.{arith}
-use Rattle.replay.proofs.Front.{front-of-repeat}
+use Rattle.text.specs.laws.Fronts.{front-of-repeat}
 use borrow.Author.Needs.{needs}
 use Rattle.replay.proofs.dense.interpolation.Statement.{statement}
 use Rattle.replay.proofs.dense.interpolation.Tie as tie

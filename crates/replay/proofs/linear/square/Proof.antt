@@ -1,6 +1,6 @@
 -- `replay::linear::square` meets its contract: a square grows with its side. Assumes nothing.
 use native.Mathlib.Omega.{arith}
-use Rattle.replay.proofs.Square.{squared}
+use Rattle.text.specs.laws.Fronts.{squared}
 use Rattle.replay.proofs.linear.square.Statement.{statement}
 use Rattle.replay.proofs.linear.square.Tie as tie
 

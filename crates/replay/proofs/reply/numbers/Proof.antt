@@ -1,13 +1,12 @@
 -- `replay::reply::numbers` meets its contract: as many values are read as there is room for. Assumes nothing.
-use mathlib.Core.Path.{sym}
 use native.Mathlib.Omega.{arith}
-use lib.Seq.{length-take-le}
 use borrow.Author.Needs.{needs}
+use Rattle.text.specs.laws.Fronts.{front}
 use Rattle.replay.proofs.reply.numbers.Statement.{statement}
 use Rattle.replay.proofs.reply.numbers.Tie as tie
 
 slice-aggregate-doubles : tie.Need-slice-aggregate-doubles
-slice-aggregate-doubles c = sym (length-take-le _ _ (omega arith))
+slice-aggregate-doubles c = front _ _ (omega arith)
 
 pub numbers-spec : {M : Type 1} → statement M
 numbers-spec =

@@ -1,6 +1,6 @@
 -- `replay::run::run` is safe: n is at most 64, and there is room for as many components. Assumes nothing.
 use native.Mathlib.Omega.{arith}
-use Rattle.replay.proofs.Front.{front-of-repeat}
+use Rattle.text.specs.laws.Fronts.{front-of-repeat}
 use borrow.Author.Needs.{needs}
 use Rattle.replay.proofs.run.run.Statement.{statement}
 use Rattle.replay.proofs.run.run.Tie as tie

@@ -1,10 +1,10 @@
 -- `run_job::run::turns` is safe and ends: the measure is the number of turns that are left. From turn to turn the slices keep
 -- their lengths. Assumes nothing.
-use mathlib.Core.Path.{_≡_, refl, sym}
+use mathlib.Core.Path.{_≡_, refl}
 use native.Mathlib.Omega.{arith}
 use lib.ListN.{length, length-append, length-drop}
-use lib.Seq.{length-take-le}
 use Rattle.matrix.specs.Size.{maxN}
+use Rattle.text.specs.laws.Fronts.{front}
 use Rattle.run_job.proofs.run.turns.Statement.{statement}
 use Rattle.run_job.proofs.run.turns.Tie as tie
 
@@ -19,19 +19,19 @@ loop-holds : tie.Need-loop-holds Inv-loop μ-loop
 loop-holds c = (refl, (refl, (refl, refl)))
 
 slice-aggregate-turn : tie.Need-slice-aggregate-turn Inv-loop μ-loop
-slice-aggregate-turn c = sym (length-take-le _ _ (omega arith))
+slice-aggregate-turn c = front _ _ (omega arith)
 
 turn-requires : tie.Need-turn-requires Inv-loop μ-loop
 turn-requires c κs =
     let inv = c .before .before .before .before .before .before .before .loop .inv in
-    let front = length-take-le (c .before .before .before .before .before .before .before .before .before .before .before .before .args .n) (c .before .before .before .before .before .before .before .loop .dy) (omega arith) in
+    let front = front (c .before .before .before .before .before .before .before .before .before .before .before .before .args .n) (c .before .before .before .before .before .before .before .loop .dy) (omega arith) in
     (omega arith, omega arith)
 
 loop-again : tie.Need-loop-again Inv-loop μ-loop
 loop-again c =
     let kept = c .before .before .before .before .before .before .before .turn .kept in
     let inv = c .before .before .before .before .before .before .before .before .before .before .before .before .before .before .before .loop .inv in
-    let front = length-take-le (c .before .before .before .before .before .before .before .before .before .before .before .before .before .before .before .before .before .before .before .before .args .n) (c .before .before .before .before .before .before .before .before .before .before .before .before .before .before .before .loop .dy) (omega arith) in
+    let front = front (c .before .before .before .before .before .before .before .before .before .before .before .before .before .before .before .before .before .before .before .before .args .n) (c .before .before .before .before .before .before .before .before .before .before .before .before .before .before .before .loop .dy) (omega arith) in
     (omega (arith, kept, inv), (omega (arith, kept, inv), (omega (arith, kept, inv), simp (length-append, length-drop) (omega (arith, kept, inv)))))
 
 pub turns-spec : {M : Type 1} → statement M

@@ -1,0 +1,3 @@
+-- Which place comes back where a page is written out.
+pub mod Output
+pub mod promises

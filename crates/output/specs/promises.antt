@@ -1,0 +1,2 @@
+-- What is promised of writing out.
+pub mod Unique

@@ -1,3 +1,0 @@
--- What the proofs of several functions cite.
-mod Front
-mod Square
