@@ -1,5 +1,5 @@
 -- A run's history: what a caller is given from the beginning on, whatever is replied. The theorems over whole runs are about it:
--- `Demand3`, `NeverDamaged` and `RunEnds`.
+-- `EndMeans`, `Demand3`, `NeverDamaged` and `RunEnds`.
 use mathlib.Core.Path.{_≡_}
 use mathlib.Core.List.{List, [], _∷_}
 use mathlib.Core.Bool.{Bool, true, false, _&&_}

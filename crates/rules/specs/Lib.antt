@@ -9,6 +9,8 @@ pub mod Moves
 pub mod Literals
 pub mod Tables
 pub mod Settings
+pub mod Statuses
+pub mod Counters
 pub mod Replies
 pub mod Refusals
 pub mod Answers
@@ -24,11 +26,13 @@ pub mod Order
 pub mod Attempt
 pub mod Step
 pub mod Reply
--- ---- the run: a beginning and a going on, with their checks; both as one thing with what is handed to them; a whole exchange
+-- ---- the run: a beginning and a going on, with their checks; both as one thing with what is handed to them; a whole exchange, and
+-- what its caller knows of x and y
 pub mod Checks
 pub mod Begin
 pub mod GoOn
 pub mod Calls
 pub mod History
+pub mod Known
 pub mod laws
 pub mod promises

@@ -8,6 +8,7 @@ pub mod NewtonLaws
 pub mod OrderLaws
 pub mod RescaleLaws
 pub mod FactorLaws
+pub mod AsideLaws
 pub mod LengthLaws
 -- ---- what the code asks of its callers
 pub mod Ready
@@ -40,3 +41,10 @@ pub mod PlaceLaws
 pub mod ExchangeLaws
 pub mod UndamagedLaws
 pub mod SoundLaws
+-- ---- why an end comes, and that the state is where the caller knows it to be, over whole exchanges
+pub mod YLaws
+pub mod ToldLaws
+pub mod Leading
+pub mod EndLaws
+pub mod KnownLaws
+pub mod LastLaws

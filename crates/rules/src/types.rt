@@ -1,5 +1,8 @@
 // What goes in and what comes back: the settings, the questions and replies, and the state of a run.
 use matrix::MAX_N;
+ghost use mathlib.Core.Path.{_≡_};
+ghost use Rattle.rules.specs.Statuses.{isSuccessOf, reachedOf};
+ghost use Rattle.rules.specs.Counters.{noEvals, noSteps};
 
 // A setting that the Rust holds as an Option<Float>.
 pub enum Setting {
@@ -18,6 +21,33 @@ pub enum Status {
     UserInterrupt,
     NeedLargerNMax,
     StepSizeTooSmall,
+}
+
+impl Status {
+    // As the Rust has it: true for Success, and for UserInterrupt too. So true does not say that the run came to xend, for the
+    // caller may have broken it off; ask `reached`.
+    pub fn is_success(self) -> bool
+        ensures { λ r. ⌜ r ≡ isSuccessOf self ⌝ }
+    {
+        match self {
+            Status::Success => true,
+            Status::UserInterrupt => true,
+            Status::NeedLargerNMax => false,
+            Status::StepSizeTooSmall => false,
+        }
+    }
+
+    // Whether the run came to xend: true for Success alone. This is the question to ask.
+    pub fn reached(self) -> bool
+        ensures { λ r. ⌜ r ≡ reachedOf self ⌝ }
+    {
+        match self {
+            Status::Success => true,
+            Status::UserInterrupt => false,
+            Status::NeedLargerNMax => false,
+            Status::StepSizeTooSmall => false,
+        }
+    }
 }
 
 // Which of the two tolerances is negative.
@@ -114,10 +144,36 @@ pub struct Evals {
     pub lu: usize,
 }
 
+impl Evals {
+    // Nothing evaluated yet.
+    pub fn new() -> Self
+        ensures { λ r. ⌜ r ≡ noEvals ⌝ }
+    {
+        Evals {
+            ode: 0,
+            jac: 0,
+            lu: 0,
+        }
+    }
+}
+
 pub struct Steps {
     pub total: usize,
     pub accepted: usize,
     pub rejected: usize,
+}
+
+impl Steps {
+    // Nothing attempted yet.
+    pub fn new() -> Self
+        ensures { λ r. ⌜ r ≡ noSteps ⌝ }
+    {
+        Steps {
+            total: 0,
+            accepted: 0,
+            rejected: 0,
+        }
+    }
 }
 
 // current_h, n_equal_steps and lu_is_current of the Rust.

@@ -7,23 +7,12 @@ use lib.ListN.{length, take}
 use lib.Ieee.{Float}
 use Rattle.rules.specs.Types.{Turn}
 use Rattle.rules.specs.Answers.{written}
-use Rattle.rules.specs.Places.{need}
 use Rattle.rules.specs.State.{After}
+use Rattle.rules.specs.Calls.{size, needed}
 
--- how many components the state of a turn has, how many places of the workspace it needs, and how many places of the question
--- slice its answer wrote
-abbrev pub size : After Turn → ℕ
-size g = g .is .run .at .n
-
-abbrev pub needed : After Turn → ℕ
-needed g = need (size g)
-
+-- how many places of the question slice the answer of a turn wrote
 abbrev pub writtenBy : After Turn → ℕ
 writtenBy g = written (size g) (g .is .answer)
-
--- a workspace handed back after g: its needed places are as g left them. What stands beyond, and how much, is the caller's
-abbrev pub Untouched : After Turn → List Float → Type 0
-Untouched g ws = (needed g ≤ length ws) × (take (needed g) ws ≡ take (needed g) (g .ws))
 
 -- two question slices for n components: both long enough, or both too short. What they hold is free
 abbrev pub Alike : ℕ → List Float → List Float → Type 0

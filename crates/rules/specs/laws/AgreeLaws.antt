@@ -22,7 +22,7 @@ use Rattle.rules.specs.Places.{need}
 use Rattle.rules.specs.Moves.{fillTurn, filled}
 use Rattle.rules.specs.State.{After, after}
 use Rattle.rules.specs.Answers.{written}
-use Rattle.rules.specs.laws.Agree.{size, Untouched, Alike, Agree}
+use Rattle.rules.specs.laws.Agree.{Alike, Agree}
 use Rattle.rules.specs.laws.LengthLaws.{filled-long}
 use Rattle.rules.specs.laws.QuestionLaws.{fronted, Speaks, Says}
 use Rattle.rules.specs.laws.SpeakLaws.{replied-speaks, ask-first-speaks}
@@ -32,7 +32,7 @@ use Rattle.rules.specs.laws.CheckLaws.{cleared}
 use Rattle.rules.specs.Begin.{beginWs, askFirst, beginRun, beginOf}
 use Rattle.rules.specs.GoOn.{countChecked, goChecked, goWithin, goTurn, goOn}
 use Rattle.rules.specs.laws.GoOnLaws.{handed}
-use Rattle.rules.specs.Calls.{Configuration, beginning, beginningChecked, beginningTurn, beginningPassed}
+use Rattle.rules.specs.Calls.{Configuration, beginning, beginningChecked, beginningTurn, beginningPassed, size, Untouched}
 use Rattle.rules.specs.declared.stages.Wants.{Wants}
 use Rattle.rules.specs.declared.stages.Wants.the-variants.{Count, Unsuited}
 use Rattle.rules.specs.declared.stages.Check.{Check}

@@ -18,7 +18,7 @@ use Rattle.rules.specs.laws.GoOnLaws.{handed}
 use Rattle.rules.specs.laws.Moved.{Repivoted, as-before}
 use Rattle.rules.specs.laws.MovedLaws.{repivoted-twice}
 use Rattle.rules.specs.Answers.{isRefused}
-use Rattle.rules.specs.Calls.{Configuration, beginning, beginningChecked, beginningPassed, Call, goingOnChecked, goingOnPassed}
+use Rattle.rules.specs.Calls.{Configuration, direction, beginning, beginningChecked, beginningPassed, Call, goingOnChecked, goingOnPassed}
 use Rattle.rules.specs.laws.CallLaws.{beginning-cases, going-on-cases}
 use Rattle.rules.specs.promises.RefusalLaws.{refused-call}
 use Rattle.rules.specs.History.{called, Exchange, begins, goes-on, is-refused}
@@ -36,6 +36,8 @@ pub record Set (c : Configuration) (p : Progress) : Type 0 where
   pub same-steps : p .limits .steps ≡ c .settings .«max_steps»
   pub same-newton : p .limits .newton ≡ max (c .settings .«newton_maxiter») 1
   pub same-first : p .span .«first_step» ≡ c .settings .«first_step»
+  pub same-end : p .span .xend ≡ c .xend
+  pub same-direction : p .span .direction ≡ direction c
   pub pivots : Repivoted (p .n) (replicate 32 0) (p .pivot)
 
 -- a run with nothing to do has ended at once; any other is set, stands and tells
@@ -65,6 +67,8 @@ module _ (c : Configuration) where
         same-steps = refl;
         same-newton = refl;
         same-first = refl;
+        same-end = refl;
+        same-direction = refl;
         pivots = as-before;
       })
       stands
@@ -92,6 +96,8 @@ module _ {c : Configuration} where
         same-steps = t .same-steps ∙ s .same-steps;
         same-newton = t .same-newton ∙ s .same-newton;
         same-first = ap (λ (x : Span). x .«first_step») (t .same-span) ∙ s .same-first;
+        same-end = ap (λ (x : Span). x .xend) (t .same-span) ∙ s .same-end;
+        same-direction = ap (λ (x : Span). x .direction) (t .same-span) ∙ s .same-direction;
         pivots = rw (t .same-n) (repivoted-twice (s .pivots) (t .pivots));
       }
 

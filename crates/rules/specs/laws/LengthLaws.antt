@@ -1,34 +1,20 @@
--- Every stage changes numbers in place: the workspace that it leaves is as long as the one that it was given.
+-- Every stage changes numbers in place: the workspace that it leaves is as long as the one that it was given. A length survives any
+-- write, so that the stages that write aside of y are done (`AsideLaws`); here are the others.
 use mathlib.Core.Path.{_≡_, sym, ap, _∙_}
 use mathlib.Core.List.{List}
-use Prim.Native.Nat.{ℕ, _+_, _*_}
+use Prim.Native.Nat.{ℕ, _+_}
 use native.Mathlib.Omega.{arith}
 use lib.ListN.{length, set, take, drop, length-set, length-append, take-append-drop}
 use lib.Ieee.{Float}
-use Rattle.loops.specs.laws.ChoiceLaws.{either}
 use Rattle.loops.specs.Loop.{loop}
 use Rattle.loops.specs.laws.Order.{loop-keeps}
 use Rattle.loops.specs.Part.{part, over}
-use Rattle.matrix.specs.Lu.{lu_decompOf as luDecompOf}
-use Rattle.matrix.specs.Linear.{lin_solveOf as linSolveOf}
-use Rattle.matrix.specs.laws.LengthLaws.{factors-long, solution-long}
-use Rattle.rules.specs.Types.{Progress, Pace, Tolerance, Scalar, Vector}
-use Rattle.rules.specs.State.{Left}
-use Rattle.rules.specs.Places.{row, get, d, rhs}
+use Rattle.rules.specs.Types.{Progress, Tolerance}
+use Rattle.rules.specs.Places.{need, get, d}
 use Rattle.rules.specs.Moves.{copyTurn, copied, fillTurn, filled, loadTurn, loaded}
-use Rattle.rules.specs.Predict.{predictTurn, predict, scaleTurn, scaled, psiTurn, psied}
-use Rattle.rules.specs.Starting.{eulerTurn, euler}
-use Rattle.rules.specs.Newton.{residualTurn, residual, solved, correction, advanceTurn, advanced}
-use Rattle.rules.specs.Judge.{weighTurn, weighed, newestTurn, newest, addNextTurn, addNext, summedTurn, summed, coeffTurn, coefficient, coeffs, contTurn, prepared, acceptedWs}
-use Rattle.rules.specs.Factor.{matrixTurn, matrixCells, diagonal, matrixRow, matrix, factored}
-use Rattle.rules.specs.Order.{errorAt, errM, errP}
-use Rattle.rules.specs.Rescale.{changeD}
-use Rattle.rules.specs.laws.RescaleLaws.{changeD-length}
-use Rattle.rules.specs.Attempt.{rescaledD, toHmax, toHmin, fitted, cutAtEnd, aimed, predictedAll}
-use Rattle.rules.specs.Step.{errorWs}
-use Rattle.rules.specs.Reply.{firstTurn, firstDifference, differences}
-use Rattle.rules.specs.Begin.{tolerances, beginWs}
-use Rattle.rules.specs.declared.stages.Aimed.{Aimed}
+use Rattle.rules.specs.Judge.{newestTurn, newest, addNextTurn, addNext, summedTurn, summed, coeffTurn, coefficient, coeffs, contTurn, prepared, acceptedWs}
+use Rattle.rules.specs.Begin.{beginWs}
+use Rattle.rules.specs.laws.AsideLaws.{Survives, tolerances-keep}
 
 -- a list is as long as its first places and the others together
 split-length : {A : Type 0} (n : ℕ) (l : List A) → length (take n l) + length (drop n l) ≡ length l
@@ -47,12 +33,16 @@ module _ (l : ℕ) where
   abbrev Long : List Float → Type 0
   Long ws = length ws ≡ l
 
+  pub long-survives : (n : ℕ) → Survives n Long
+  long-survives n =
+      record { set-aside = λ ws i x aside h. simp length-set h; over-before = λ a m g ws before e h. over-length a m g ws e ∙ h }
+
   -- a loop whose every turn keeps the length
   each : (lo hi : ℕ) (f : ℕ → List Float → List Float) (ws : List Float) → ((i : ℕ) (v : List Float) → Long v → Long (f i v))
       → Long ws → Long (loop lo hi f ws)
   each lo hi f ws k h = loop-keeps Long lo hi f ws (λ i v from below q. k i v q) h
 
-  -- ---- copies and fills
+  -- ---- copies and fills, wherever they write
 
   pub copied-long : (from to n : ℕ) (ws : List Float) → Long ws → Long (copied from to n ws)
   unfolding copied copyTurn
@@ -66,51 +56,7 @@ module _ (l : ℕ) where
   unfolding loaded loadTurn
   loaded-long values from to n ws h = each _ _ (loadTurn values from to) ws (λ i v q. simp length-set q) h
 
-  -- ---- the prediction
-
-  pub scaled-long : (n v : ℕ) (ws : List Float) → Long ws → Long (scaled n v ws)
-  unfolding scaled scaleTurn
-  scaled-long n v ws h = each _ _ (scaleTurn n v) ws (λ i u q. simp length-set q) h
-
-  pub predicted-long : (n order : ℕ) (ws : List Float) → Long ws → Long (predictedAll n order ws)
-  unfolding predictedAll predict predictTurn psied psiTurn
-  predicted-long n order ws h =
-      each _ _ (psiTurn n order) _ (λ i v q. simp length-set q)
-      (scaled-long n _ _ (each _ _ (predictTurn n order) ws (λ i v q. simp length-set q) h))
-
-  pub euler-long : (n : ℕ) (x : Float) (ws : List Float) → Long ws → Long (euler n x ws)
-  unfolding euler eulerTurn
-  euler-long n x ws h = each _ _ (eulerTurn n x) ws (λ i v q. simp length-set q) h
-
-  -- ---- Newton's iteration
-
-  pub advanced-long : (n : ℕ) (ws : List Float) → Long ws → Long (advanced n ws)
-  unfolding advanced advanceTurn
-  advanced-long n ws h = each _ _ (advanceTurn n) ws (λ i v q. simp length-set q) h
-
-  residual-long : (n : ℕ) (c : Float) (ws : List Float) → Long ws → Long (residual n c ws)
-  unfolding residual residualTurn
-  residual-long n c ws h = each _ _ (residualTurn n c) ws (λ i v q. simp length-set q) h
-
-  solved-long : (n : ℕ) (pivot : List ℕ) (ws : List Float) → Long ws → Long (solved n pivot ws)
-  unfolding solved
-  solved-long n pivot ws h =
-      let factors = part (n * n) (n * n) ws in
-      over-length (row n rhs) n (λ b. linSolveOf factors b (take n pivot) .1) ws (solution-long factors (part (row n rhs) n ws) (take n pivot)) ∙ h
-
-  pub correction-long : (n : ℕ) (c : Float) (pivot : List ℕ) (values ws : List Float) → Long ws → Long (correction n c pivot values ws)
-  unfolding correction
-  correction-long n c pivot values ws h = solved-long n pivot _ (residual-long n c _ (loaded-long values 0 (row n rhs) n ws h))
-
-  -- ---- the judgement of a step
-
-  pub weighed-long : (n : ℕ) (k : Float) (v : ℕ) (ws : List Float) → Long ws → Long (weighed n k v ws)
-  unfolding weighed weighTurn
-  weighed-long n k v ws h = each _ _ (weighTurn n k v) ws (λ i u q. simp length-set q) h
-
-  pub error-long : (n order : ℕ) (ws : List Float) → Long ws → Long (errorWs n order ws)
-  unfolding errorWs
-  error-long n order ws h = weighed-long n _ _ _ (scaled-long n _ ws h)
+  -- ---- an accepted step
 
   newest-long : (n order : ℕ) (ws : List Float) → Long ws → Long (newest n order ws)
   unfolding newest newestTurn
@@ -135,66 +81,15 @@ module _ (l : ℕ) where
   unfolding acceptedWs
   accepted-long n order ws h = prepared-long n order _ (summed-long n order _ (newest-long n order _ (copied-long _ _ n ws h)))
 
-  -- ---- the matrix
-
-  matrix-row-long : (n : ℕ) (c : Float) (r : ℕ) (ws : List Float) → Long ws → Long (matrixRow n c r ws)
-  unfolding matrixRow diagonal matrixCells matrixTurn
-  matrix-row-long n c r ws h = simp length-set (each 0 n (matrixTurn n c r) ws (λ i v q. simp length-set q) h)
-
-  matrix-long : (n : ℕ) (c : Float) (ws : List Float) → Long ws → Long (matrix n c ws)
-  unfolding matrix
-  matrix-long n c ws h = each _ _ (matrixRow n c) ws (λ i v q. matrix-row-long n c i v q) h
-
-  pub factored-long : (n : ℕ) (c : Float) (pivot : List ℕ) (ws : List Float) → Long ws → Long (factored n c pivot ws .ws)
-  unfolding factored
-  factored-long n c pivot ws h =
-      let a = part (n * n) (n * n) (matrix n c ws) in
-      over-length (n * n) (n * n) (λ _. luDecompOf a (take n pivot) .1) (matrix n c ws) (factors-long a (take n pivot) .0) ∙ matrix-long n c ws h
-
-  -- ---- the differences
-
-  pub rescaled-long : (n order : ℕ) (factor : Float) (ws : List Float) → Long ws → Long (rescaledD n order factor ws)
-  unfolding rescaledD
-  rescaled-long n order factor ws h =
-      let differences-kept = changeD-length n order factor (part (row n (d 0)) (8 * n) ws) in
-      over-length (row n (d 0)) (8 * n) (changeD n order factor) ws differences-kept ∙ h
-
-  pub differences-long : (n : ℕ) (x direction : Float) (ws : List Float) → Long ws → Long (differences n x direction ws)
-  unfolding differences firstDifference firstTurn
-  differences-long n x direction ws h =
-      each _ _ (firstTurn n x direction) _ (λ i v q. simp length-set q) (copied-long _ _ n _ (filled-long _ _ _ ws h))
-
-  -- ---- the same of the stages that leave a result besides
-
-  pub fitted-long : (p : Progress) (ws : List Float) → Long ws → Long (fitted p ws .ws)
-  unfolding fitted toHmin toHmax
-  fitted-long p ws h =
-      let above = either (λ (a : Left Pace). Long (a .ws)) _ (λ _. rescaled-long _ _ _ ws h) (λ _. h) in
-      either (λ (a : Left Pace). Long (a .ws)) _ (λ _. rescaled-long _ _ _ _ above) (λ _. above)
-
-  pub aimed-long : (p : Progress) (ws : List Float) → Long ws → Long (aimed p ws .ws)
-  unfolding aimed cutAtEnd
-  aimed-long p ws h =
-      either (λ (a : Left Aimed). Long (a .ws)) _
-      (λ _. either (λ (a : Left Aimed). Long (a .ws)) _ (λ _. h) (λ _. rescaled-long _ _ _ ws h))
-      (λ _. h)
-
-  pub error-below-long : (n order : ℕ) (ws : List Float) → Long ws → Long (errM n order ws .ws)
-  unfolding errM errorAt
-  error-below-long n order ws h = either (λ (a : Left Float). Long (a .ws)) _ (λ _. weighed-long n _ _ ws h) (λ _. h)
-
-  pub error-above-long : (n order : ℕ) (ws : List Float) → Long ws → Long (errP n order ws .ws)
-  unfolding errP errorAt
-  error-above-long n order ws h = either (λ (a : Left Float). Long (a .ws)) _ (λ _. weighed-long n _ _ ws h) (λ _. h)
-
   -- ---- the beginning
-
-  tolerances-long : (t : Tolerance) (values : List Float) (to n : ℕ) (ws : List Float) → Long ws → Long (tolerances t values to n ws)
-  tolerances-long (Scalar x) values to n ws h = filled-long to n x ws h
-  tolerances-long Vector values to n ws h = loaded-long values 0 to n ws h
 
   pub begin-long : (n : ℕ) (y0 : List Float) (r : Tolerance) (rs : List Float) (a : Tolerance) (als : List Float) (ws : List Float)
       → Long ws → Long (beginWs n y0 r rs a als ws)
   unfolding beginWs
   begin-long n y0 r rs a als ws h =
-      tolerances-long a als _ n _ (tolerances-long r rs _ n _ (loaded-long y0 0 _ n _ (filled-long 0 _ _ ws h)))
+      tolerances-keep (long-survives n) a als _ _ (omega arith)
+      (tolerances-keep (long-survives n) r rs _ _ (omega arith) (loaded-long y0 0 _ n _ (filled-long 0 _ _ ws h)))
+
+-- a workspace just as long as a state needs it
+pub exact : (p : Progress) → Survives (p .n) (λ (ws : List Float). length ws ≡ need (p .n))
+exact p = long-survives (need (p .n)) (p .n)

@@ -18,7 +18,8 @@ use Rattle.rules.specs.Moves.{loaded}
 use Rattle.rules.specs.Step.{errorRejected, judged, stepAccepted, newtonFailed, newtonAgain, iterated, newtonReplied}
 use Rattle.rules.specs.Reply.{jacobianStored, started, hinitAsks, firstStep, hinitReplied, modified, restarted, chosen, ordered, stepped, newtonTurn, failedTurn, firstDerivative, firstJacobian, restartJacobian, stepJacobian, orderJacobian, startNoticed, stepNoticed, replied}
 use Rattle.rules.specs.Begin.{kept, askFirst}
-use Rattle.rules.specs.laws.LengthLaws.{copied-long, filled-long, loaded-long, predicted-long, euler-long, advanced-long, correction-long, error-long, accepted-long, factored-long, rescaled-long, differences-long, fitted-long, aimed-long, error-below-long, error-above-long, begin-long}
+use Rattle.rules.specs.laws.AsideLaws.{predicted-keeps, euler-keeps, advanced-keeps, correction-keeps, error-keeps, factored-keeps, rescaled-keeps, differences-keep, fitted-keeps, aimed-keeps, error-below-keeps, error-above-keeps}
+use Rattle.rules.specs.laws.LengthLaws.{exact, copied-long, filled-long, loaded-long, accepted-long, begin-long}
 use Rattle.rules.specs.laws.QuestionLaws.{fronted, Speaks, Says, SaysTried, speaks-alike, speaks-nothing, speaks-either, speaks-told, speaks-notice}
 use Rattle.rules.specs.declared.settings.BDF.{BDF}
 use Rattle.rules.specs.declared.stages.Choice.{Choice}
@@ -45,15 +46,15 @@ newton-start-speaks p ws h =
 refactored-speaks : (p : Progress) (ws : List Float) → Exact p ws → Attempts p (refactored p ws)
 unfolding refactored halved
 refactored-speaks p ws h =
-    let f = factored-long _ (p .n) (p .aim .c) (p .pivot) ws h in
+    let f = factored-keeps (exact p) (p .aim .c) (p .pivot) ws h in
     speaks-either _
     (λ _. newton-start-speaks _ _ f)
-    (λ _. speaks-nothing _ _ (rescaled-long _ _ _ _ _ f) (refl, refl))
+    (λ _. speaks-nothing _ _ (rescaled-keeps (exact p) _ _ _ f) (refl, refl))
 
 attempt-at-speaks : (p : Progress) (ws : List Float) → Exact p ws → Attempts p (attemptAt p ws)
 unfolding attemptAt
 attempt-at-speaks p ws h =
-    let w = predicted-long _ (p .n) (p .order) ws h in
+    let w = predicted-keeps (exact p) (p .order) ws h in
     speaks-either _ (λ _. refactored-speaks p _ w) (λ _. newton-start-speaks p _ w)
 
 guarded-speaks : (p : Progress) (ws : List Float) → Exact p ws → Attempts p (guarded p ws)
@@ -72,7 +73,7 @@ attempt-speaks p ws h =
     (λ _. speaks-nothing _ ws h (refl, refl, refl))
     (λ _. speaks-either _
     (λ _. speaks-nothing _ ws h (refl, refl, refl))
-    (λ _. headed-speaks _ (aimed _ _ .is) _ (aimed-long _ _ _ (fitted-long _ p ws h))))
+    (λ _. headed-speaks _ (aimed _ _ .is) _ (aimed-keeps _ (exact p) _ (fitted-keeps p (exact p) ws h))))
 
 -- ---- the main loop
 
@@ -116,9 +117,9 @@ step-accepted-speaks p safety norm ws h =
 judged-speaks : (p : Progress) (ws : List Float) → Exact p ws → Attempts p (judged p ws)
 unfolding judged errorRejected
 judged-speaks p ws h =
-    let w = error-long _ (p .n) (p .order) ws h in
+    let w = error-keeps (exact p) (p .order) ws h in
     speaks-either _
-    (λ _. speaks-nothing _ _ (rescaled-long _ _ _ _ _ w) (refl, refl))
+    (λ _. speaks-nothing _ _ (rescaled-keeps (exact p) _ _ _ w) (refl, refl))
     (λ _. step-accepted-speaks p _ _ _ w)
 
 iterated-speaks : (p : Progress) (norm : Float) (ws : List Float) → Exact p ws → Attempts p (iterated p norm ws)
@@ -133,8 +134,8 @@ iterated-speaks p norm ws h =
 newton-replied-speaks : (p : Progress) (values ws : List Float) → Exact p ws → Attempts p (newtonReplied p values ws)
 unfolding newtonReplied
 newton-replied-speaks p values ws h =
-    let w = correction-long _ (p .n) (p .aim .c) (p .pivot) values ws h in
-    iterated-speaks _ _ _ (advanced-long _ (p .n) _ w)
+    let w = correction-keeps (exact p) (p .aim .c) (p .pivot) values ws h in
+    iterated-speaks _ _ _ (advanced-keeps (exact p) _ w)
 
 newton-turn-speaks : (p : Progress) (values ws : List Float) → Exact p ws → Turns p (newtonTurn p values ws)
 unfolding newtonTurn
@@ -144,11 +145,11 @@ newton-turn-speaks p values ws h = onward-speaks mainLoop (λ r v. main-loop-spe
 
 started-speaks : (p : Progress) (hAbs : Float) (ws : List Float) → Exact p ws → Turns p (started p hAbs ws)
 unfolding started
-started-speaks p hAbs ws h = speaks-told y _ _ (omega arith) (differences-long _ (p .n) _ _ ws h) (refl, refl, refl)
+started-speaks p hAbs ws h = speaks-told y _ _ (omega arith) (differences-keep (exact p) _ _ ws h) (refl, refl, refl)
 
 hinit-asks-speaks : (p : Progress) (ws : List Float) → Exact p ws → Turns p (hinitAsks p ws)
 unfolding hinitAsks
-hinit-asks-speaks p ws h = speaks-told y1 _ _ (omega arith) (euler-long _ (p .n) _ ws h) (refl, refl, refl)
+hinit-asks-speaks p ws h = speaks-told y1 _ _ (omega arith) (euler-keeps (exact p) _ ws h) (refl, refl, refl)
 
 first-step-speaks : (p : Progress) (s : Setting) (ws : List Float) → Exact p ws → Turns p (firstStep p s ws)
 unfolding firstStep
@@ -160,12 +161,12 @@ first-step-speaks p (Given x) ws h = started-speaks p _ ws h
 chosen-speaks : (p : Progress) (c : Choice) (ws : List Float) → Exact p ws → Turns p (chosen p c ws)
 unfolding chosen
 chosen-speaks p c ws h =
-    let w = rescaled-long _ (p .n) (c .order) (c .factor) ws h in
+    let w = rescaled-keeps (exact p) (c .order) (c .factor) ws h in
     speaks-either _ (λ _. main-loop-speaks _ _ refl w) (λ _. speaks-told y _ _ (omega arith) w (refl, refl, refl))
 
 ordered-speaks : (p : Progress) (ws : List Float) → Exact p ws → Turns p (ordered p ws)
 unfolding ordered
-ordered-speaks p ws h = chosen-speaks p _ _ (error-above-long _ (p .n) (p .order) _ (error-below-long _ (p .n) (p .order) ws h))
+ordered-speaks p ws h = chosen-speaks p _ _ (error-above-keeps (exact p) (p .order) _ (error-below-keeps (exact p) (p .order) ws h))
 
 stepped-speaks : (p : Progress) (ws : List Float) → Exact p ws → Turns p (stepped p ws)
 unfolding stepped
@@ -187,7 +188,7 @@ module _ (p : Progress) (values ws : List Float) (h : Exact p ws) where
 
   restarted-speaks : (w : Awaited) → Turns p (restarted w p values ws)
   unfolding restarted
-  restarted-speaks w = speaks-told y _ _ (omega arith) (differences-long _ (p .n) _ _ _ (stored-long _ _)) (refl, refl, refl)
+  restarted-speaks w = speaks-told y _ _ (omega arith) (differences-keep (exact p) _ _ _ (stored-long _ _)) (refl, refl, refl)
 
   start-noticed-speaks : (r : Reply) → Turns p (startNoticed p r values ws)
   start-noticed-speaks Continue = main-loop-speaks p ws refl h
@@ -227,7 +228,7 @@ module _ (p : Progress) (values ws : List Float) (h : Exact p ws) where
 
   failed-speaks : Turns p (failedTurn p values ws)
   unfolding failedTurn halved jacobianStored
-  failed-speaks = main-loop-speaks _ _ refl (rescaled-long _ _ _ _ _ (stored-long _ _))
+  failed-speaks = main-loop-speaks _ _ refl (rescaled-keeps (exact p) _ _ _ (stored-long _ _))
 
   pub replied-speaks : (w : Awaited) (r : Reply) → Turns p (replied w p r values ws)
   replied-speaks FirstDerivative r = first-derivative-speaks

@@ -23,7 +23,7 @@ pub record Row : Type 0 where
   -- derivatives and Jacobians that may still be counted before there is another attempt or accepted step
   pub odeLeft : ℕ
   pub jacLeft : ℕ
-  -- start notices so far, at most
+  -- start notices so far
   pub starts : ℕ
   -- answers yet to come up to the third, which is the first that can be the start's derivative
   pub ahead : ℕ
@@ -45,7 +45,7 @@ columns underway ode jac odeLeft jacLeft starts ahead equal =
 --          | | j             Jacobians asked and not counted yet
 --          | | | O           derivatives that may still be counted
 --          | | | | J         Jacobians that may still be counted
---          | | | | | s       start notices, at most
+--          | | | | | s       start notices so far
 --          | | | | | | a     answers ahead, up to the third
 --          | | | | | | | e   equal steps, at most
 --          u o j O J s a e
@@ -91,7 +91,7 @@ pub record Stands (c : Configuration) (r : Row) (p : Progress) (h : List Answer)
   pub attempts : p .steps .total ≡ p .steps .accepted + p .steps .rejected + r .underway
   pub within : p .steps .total ≤ p .limits .steps
   pub notices : p .steps .accepted ≡ stepNotices h
-  pub starting : startNotices h ≤ r .starts
+  pub starting : startNotices h ≡ r .starts
   pub one-start : r .starts ≤ 1
   pub evaluations : derivatives h ≡ p .evals .ode + r .ode + hidden c h
   pub differentials : jacobians h ≡ p .evals .jac + r .jac

@@ -1,17 +1,19 @@
 -- Solvers that only look like one, and why none of them meets the contracts: each is a property of a solver's two functions, and
--- each is refuted by an exchange that the contracts fix, one of those in Printed.antt.
+-- each is refuted by an exchange that the contracts fix, one of those in Printed.antt; invented counters by demand 3 besides.
 use mathlib.Core.Path.{_≡_, refl, sym, ap, _∙_, subst}
 use mathlib.Core.Bool.{true, false≢true}
-use mathlib.Core.List.{List, []}
+use mathlib.Core.List.{List, [], _∷_}
 use mathlib.Core.Logic.{_⊎_, inl, inr}
 use Prim.Native.Nat.{ℕ}
 use native.Mathlib.Omega.{arith}
 use lib.ListN.{getD}
 use lib.Ieee.{Float, nan, inf, fin}
 use Rattle.rules.specs.Types.{Evals, Steps, Answer, Derivative, Jacobian, Start, Step, End, Refused, Run}
-use Rattle.rules.specs.Answers.{isStep, isEnd, isRefused}
+use Rattle.rules.specs.Answers.{isStep, isEnd, isRefused, NoticeOrEnd}
 use Rattle.rules.specs.Calls.{Configuration, Call}
 use Rattle.rules.specs.promises.Solver.{Solver, Meets, Replied, Line, ours, later, transcript, transcript-same}
+use Rattle.rules.specs.promises.Demand3.{Counted}
+use Rattle.rules.specs.promises.AnySolver.{ExchangeWith, every-solver-counts}
 use Rattle.rules.specs.promises.Printed.{nought, one, job, transcriptOfJob, replies, lines, fewer, fewer-lines, rising-lines, computed}
 
 -- what stands past a transcript's end: neither a step nor an end, so that nothing is claimed of it
@@ -130,6 +132,19 @@ pub no-repeater-of-values : {o : Solver} → Meets o → Repeats (λ l. l .y) o 
 no-repeater-of-values m r = let same : _≡_ {A = ℕ} 3 1 = ap (λ (v : List Float). digits (getD v 0 nan)) (repeated (λ l. l .y) m r) in omega arith
 
 -- ---- invented counters
+
+-- one that tells counters which are not demand 3's, at a notice or at an end of some exchange
+pub record Miscounts (o : Solver) : Type 0 where
+  pub configuration : Configuration
+  pub run : Run
+  pub last : Answer
+  pub before : List Answer
+  pub exchange : ExchangeWith o configuration run (last ∷ before)
+  pub told : NoticeOrEnd last
+  pub wrong : Counted configuration run (last ∷ before) → ⊥
+
+pub no-miscounter : {o : Solver} → Meets o → Miscounts o → ⊥
+no-miscounter m x = x .wrong (every-solver-counts m (x .exchange) (x .told))
 
 -- where a solver meets the contracts, its counters are ours at every line of every exchange
 pub counters-are-ours : {o : Solver} → Meets o → (c : Configuration) (ws q : List Float) (replies : List Replied) (k : ℕ)

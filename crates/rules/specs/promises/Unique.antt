@@ -3,10 +3,13 @@
 -- states, of an answer r and of the slices' later contents.
 use mathlib.Core.Path.{_≡_, sym, ap, _∙_}
 use mathlib.Core.List.{List}
+use mathlib.Core.Bool.{Bool}
 use lib.Ieee.{Float}
-use Rattle.rules.specs.Types.{Tolerance, Run, Reply, Turn}
+use Rattle.rules.specs.Types.{Tolerance, Status, Evals, Steps, Run, Reply, Turn}
 use Rattle.rules.specs.State.{After, after}
 use Rattle.rules.specs.Settings.{defaults}
+use Rattle.rules.specs.Statuses.{isSuccessOf, reachedOf}
+use Rattle.rules.specs.Counters.{noEvals, noSteps}
 use Rattle.rules.specs.Begin.{beginOf}
 use Rattle.rules.specs.GoOn.{goOn}
 use Rattle.rules.specs.declared.settings.BDF.{BDF}
@@ -22,6 +25,34 @@ MeetsNew r = r ≡ defaults
 
 pub new-unique : {r s : BDF} → MeetsNew r → MeetsNew s → r ≡ s
 new-unique m o = m ∙ sym o
+
+-- ---- Evals::new, Steps::new
+
+abbrev pub MeetsNewEvals : Evals → Type 0
+MeetsNewEvals r = r ≡ noEvals
+
+pub new-evals-unique : {r s : Evals} → MeetsNewEvals r → MeetsNewEvals s → r ≡ s
+new-evals-unique m o = m ∙ sym o
+
+abbrev pub MeetsNewSteps : Steps → Type 0
+MeetsNewSteps r = r ≡ noSteps
+
+pub new-steps-unique : {r s : Steps} → MeetsNewSteps r → MeetsNewSteps s → r ≡ s
+new-steps-unique m o = m ∙ sym o
+
+-- ---- Status::is_success, Status::reached
+
+abbrev pub MeetsIsSuccess : Status → Bool → Type 0
+MeetsIsSuccess status r = r ≡ isSuccessOf status
+
+pub is-success-unique : (status : Status) {r s : Bool} → MeetsIsSuccess status r → MeetsIsSuccess status s → r ≡ s
+is-success-unique status m o = m ∙ sym o
+
+abbrev pub MeetsReached : Status → Bool → Type 0
+MeetsReached status r = r ≡ reachedOf status
+
+pub reached-unique : (status : Status) {r s : Bool} → MeetsReached status r → MeetsReached status s → r ≡ s
+reached-unique status m o = m ∙ sym o
 
 -- ---- begin
 

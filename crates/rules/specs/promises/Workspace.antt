@@ -7,10 +7,10 @@ use lib.Ieee.{Float}
 use Rattle.rules.specs.Types.{Turn, Reply}
 use Rattle.rules.specs.Places.{need}
 use Rattle.rules.specs.State.{After}
-use Rattle.rules.specs.laws.Agree.{size, Untouched, Alike, Agree}
+use Rattle.rules.specs.laws.Agree.{Alike, Agree}
 use Rattle.rules.specs.laws.AgreeLaws.{begin-agrees, go-on-agrees}
 use Rattle.rules.specs.GoOn.{goOn}
-use Rattle.rules.specs.Calls.{Configuration, beginning}
+use Rattle.rules.specs.Calls.{Configuration, beginning, size, Untouched}
 
 module _ (c : Configuration) where
   -- Two callers of the same configuration, call by call, and what each has in hand. They begin with any two workspaces that are long
