@@ -1,9 +1,11 @@
 //! The words of a case and the text of an answer, as the replay program reads and writes them.
 use std::fmt::Write;
 
-/// A double as a word; every NaN is the one pattern.
+/// A double as a word; every NaN is the one pattern. The bits are taken first, out of the optimiser's sight: to it one NaN is as good
+/// as another, so that on x86_64 it left a negative number's square root the pattern FFF8000000000000 that the processor makes.
 pub fn word(x: f64) -> u64 {
-    if x.is_nan() { 0x7FF8_0000_0000_0000 } else { x.to_bits() }
+    let bits = std::hint::black_box(x.to_bits());
+    if bits & 0x7FFF_FFFF_FFFF_FFFF > 0x7FF0_0000_0000_0000 { 0x7FF8_0000_0000_0000 } else { bits }
 }
 
 /// A double as text.

@@ -1,1 +1,1 @@
-// No code: the lines that were measured on the bench and are to be proved, as one list. See specs/Measured.antt.
+// No code: the lines that were measured on the bench and are to be proved, as one list. See specs/promises/Measured.antt.

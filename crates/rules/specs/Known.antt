@@ -108,7 +108,8 @@ leaves {c} (begins ws q e) = beginning c ws q
 leaves (goes-on {run = run} ex call e) = goingOn run call
 leaves (is-refused {run = run} ex call e) = goingOn run call
 
--- every call was handed the workspace as the one before left it, as far as it is needed
+-- every call was handed the workspace as the one before left it, as far as it is needed; a refused call too, since it hands back the
+-- workspace that it was given
 abbrev pub LeftAlone : {c : Configuration} {run : Run} {h : List Answer} → Exchange c run h → Type 0
 LeftAlone (begins ws q e) = Unit
 LeftAlone (goes-on ex call e) = LeftAlone ex × Untouched (leaves ex) (call .ws)

@@ -13,7 +13,7 @@ use lib.Ieee.{Float}
 use Rattle.loops.specs.laws.ChoiceLaws.{either}
 use Rattle.loops.specs.Arithmetic.{_⊗_}
 use Rattle.rules.specs.Types.{Progress, Turn, Awaited, Reply, Setting, Unset, Given, Values, Continue, Interrupt, Modified, UserInterrupt, FirstDerivative, FirstJacobian, StartDerivative, StartNotice, ModifiedStartDerivative, ModifiedStartJacobian, NewtonDerivative, FailedJacobian, StepNotice, ModifiedStepDerivative, ModifiedStepJacobian, OrderJacobian, Ended}
-use Rattle.rules.specs.State.{withPace, ode+1, After, after, Left}
+use Rattle.rules.specs.State.{withPace, After, after, Left}
 use Rattle.rules.specs.Places.{need, row, y, yNew, yPredict, delta, f0, vector}
 use Rattle.rules.specs.Moves.{loaded}
 use Rattle.rules.specs.Attempt.{Tried, rejected, says, onward, attempt, predictedAll, fitted, fittedAttempt, aimed, cutAtEnd, headed, guarded, halved, attemptAt, refactored, newtonStart, end, tries, attemptsLeft, mainLoop}
@@ -173,7 +173,7 @@ module _ (i : Type 0) (x : Float) (v : List Float) where
   newton-comes p values ws q long asks h =
       let shows = advanced-keeps (sees p) _ (correction-keeps (sees p) (p .aim .c) (p .pivot) values ws (h .shows)) in
       let wide = advanced-keeps (exact p) _ (correction-keeps (exact p) (p .aim .c) (p .pivot) values ws long) in
-      iterated-comes (ode+1 p) _ _ q wide asks (now h shows)
+      iterated-comes _ _ _ q wide asks (now h shows)
 
   -- ---- the start
 
@@ -232,7 +232,7 @@ module _ (i : Type 0) (x : Float) (v : List Float) where
 
     hinit-leads : Leads i x v (hinitReplied p values ws q)
     unfolding hinitReplied
-    hinit-leads = started-leads p _ _ q (loaded-long _ values 0 _ _ ws (m .long)) (m .asks)
+    hinit-leads = started-leads _ _ _ q (loaded-long _ values 0 _ _ ws (m .long)) (m .asks)
 
     restarted-leads : (w : Awaited) → Leads i x v (restarted w p values ws q)
     unfolding restarted
