@@ -38,7 +38,7 @@ pub record Set (c : Configuration) (p : Progress) : Type 0 where
   pub same-first : p .span .«first_step» ≡ c .settings .«first_step»
   pub same-end : p .span .xend ≡ c .xend
   pub same-direction : p .span .direction ≡ direction c
-  pub pivots : Repivoted (p .n) (replicate 32 0) (p .pivot)
+  pub pivots : Repivoted (p .n) (replicate maxN 0) (p .pivot)
 
 -- a run with nothing to do has ended at once; any other is set, stands and tells
 pub data Kept (c : Configuration) : Run → List Answer → Type 0 where

@@ -10,6 +10,7 @@ use lib.Seq.{length-take-le, getD-take}
 use lib.Ieee.{Float}
 use Rattle.loops.specs.laws.Order.{loop-keeps}
 use Rattle.loops.specs.Part.{part}
+use Rattle.matrix.specs.Size.{maxN}
 use Rattle.matrix.specs.Lu.{lu_decompOf as luDecompOf}
 use Rattle.matrix.specs.Linear.{Inside}
 use Rattle.matrix.specs.laws.LengthLaws.{factors-long}
@@ -23,8 +24,8 @@ pub record Named (n : ℕ) (pivot : List ℕ) : Type 0 where
   pub long : n ≤ length pivot
   pub inside : Inside n pivot
 
-pub nothing-named : {n : ℕ} → 1 ≤ n → n ≤ 32 → Named n (replicate 32 0)
-nothing-named {n} some few = record { long = few; inside = λ k below. rw (getD-replicate {A = ℕ} 32 k 0 0 (omega arith)) some }
+pub nothing-named : {n : ℕ} → 1 ≤ n → n ≤ maxN → Named n (replicate maxN 0)
+nothing-named {n} some few = record { long = few; inside = λ k below. rw (getD-replicate {A = ℕ} maxN k 0 0 (omega arith)) some }
 
 factored-named : {n : ℕ} (c : Float) (pivot : List ℕ) (ws : List Float) → Named n pivot → Named n (factored n c pivot ws .is .pivot)
 unfolding factored
