@@ -129,43 +129,38 @@ fn turn(
 }
 
 fn noticed(out: &mut [u8], before: Place, answer: Answer, y: &[f64]) -> Place {
-    let place = output::roomy(out, before, LINE);
     match answer {
-        Answer::Start(x) => lines::start_line(out, place, x, y),
+        Answer::Start(x) => {
+            let place = output::roomy(out, before, LINE);
+            lines::start_line(out, place, x, y)
+        }
         Answer::Step {
             old: _,
             new,
             start: _,
             h: _,
-        } => lines::step_line(out, place, new, y),
-        _ => place,
+        } => {
+            let place = output::roomy(out, before, LINE);
+            lines::step_line(out, place, new, y)
+        }
+        _ => before,
     }
 }
 
-// A y to a question for the derivative, A to one for the Jacobian, and on from a notice, to which no numbers belong.
+// A y to a question for the derivative, A to one for the Jacobian, and on from a notice.
 fn replied(asked: Turn, a: &[f64], dy: &mut [f64], ws: &mut [f64], q: &mut [f64]) -> Turn
     requires { ⌜ (length (now dy) ≤ maxN) × (length (now q) ≡ 8 * maxN) ⌝ }
 {
+    let run = asked.run;
     let answer = asked.answer;
-    let n = dy.len();
-    if wants_derivative(answer) {
-        job::right_side(a, &q[..n], dy);
-        return go_on(asked.run, Reply::Values, dy, ws, q);
-    }
-    go_on(asked.run, suited(answer), a, ws, q)
-}
-
-fn wants_derivative(answer: Answer) -> bool {
     match answer {
-        Answer::Derivative(_) => true,
-        _ => false,
-    }
-}
-
-fn suited(answer: Answer) -> Reply {
-    match answer {
-        Answer::Jacobian(_) => Reply::Values,
-        _ => Reply::Continue,
+        Answer::Derivative(_) => {
+            let n = dy.len();
+            job::right_side(a, &q[..n], dy);
+            go_on(run, Reply::Values, dy, ws, q)
+        }
+        Answer::Jacobian(_) => go_on(run, Reply::Values, a, ws, q),
+        _ => go_on(run, Reply::Continue, &[], ws, q),
     }
 }
 
