@@ -1,4 +1,4 @@
--- `begin::ask_first`: the workspace laid out, and y told. Assumes nothing.
+-- `beginning::ask_first`: the workspace laid out, and y told. Assumes nothing.
 use borrow.Author.Needs.{needs}
 use native.Mathlib.Omega.{arith}
 use Rattle.rules.specs.laws.ReadyLaws.{room-kept}

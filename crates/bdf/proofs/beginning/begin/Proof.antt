@@ -1,4 +1,4 @@
--- `begin::begin` goes by the checks of its definition, one answer a way; past them there is room for the run. Assumes nothing.
+-- `beginning::begin` goes by the checks of its definition, one answer a way; past them there is room for the run. Assumes nothing.
 use mathlib.Core.Path.{_≡_, sym, _∙_}
 use native.Mathlib.Omega.{arith}
 use borrow.Author.Needs.{needs}

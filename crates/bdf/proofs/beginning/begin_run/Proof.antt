@@ -1,4 +1,4 @@
--- `begin::begin_run`: the needed places are lent, and what lies beyond them stays. Assumes nothing.
+-- `beginning::begin_run`: the needed places are lent, and what lies beyond them stays. Assumes nothing.
 use mathlib.Core.Path.{_≡_, refl, sym, ap, _∙_}
 use Prim.Native.Nat.{_≤_}
 use native.Mathlib.Omega.{arith}

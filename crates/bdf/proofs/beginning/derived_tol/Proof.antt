@@ -1,4 +1,4 @@
--- `begin::derived_tol` is its formula. Assumes nothing.
+-- `beginning::derived_tol` is its formula. Assumes nothing.
 use borrow.Author.Needs.{needs}
 use Rattle.rules.specs.Begin.{derivedTol}
 use Rattle.bdf.proofs.beginning.derived_tol.Statement.{statement}

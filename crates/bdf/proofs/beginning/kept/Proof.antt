@@ -1,4 +1,4 @@
--- `begin::kept`: each part by its own call. Assumes nothing.
+-- `beginning::kept`: each part by its own call. Assumes nothing.
 use borrow.Author.Needs.{needs}
 use Rattle.rules.specs.Begin.{kept}
 use Rattle.bdf.proofs.beginning.kept.Statement.{statement}

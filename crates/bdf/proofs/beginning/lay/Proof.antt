@@ -1,4 +1,4 @@
--- `begin::lay`: zeros, then the three vectors, each in its row of the 33. Assumes nothing.
+-- `beginning::lay`: zeros, then the three vectors, each in its row of the 33. Assumes nothing.
 use borrow.Author.Needs.{needs}
 use Rattle.rules.specs.Begin.{beginWs}
 use Rattle.bdf.proofs.beginning.lay.Statement.{statement}

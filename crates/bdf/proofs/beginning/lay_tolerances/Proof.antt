@@ -1,4 +1,4 @@
--- `begin::lay_tolerances` goes by the same cases as its definition. Assumes nothing.
+-- `beginning::lay_tolerances` goes by the same cases as its definition. Assumes nothing.
 use native.Mathlib.Omega.{arith}
 use borrow.Author.Needs.{needs}
 use Rattle.rules.specs.laws.CheckLaws.{vector-reaches}

@@ -1,4 +1,4 @@
--- `begin::least`: one entry a turn, from infinity on. Assumes nothing.
+-- `beginning::least`: one entry a turn, from infinity on. Assumes nothing.
 use Prim.Native.Nat.{_-_}
 use mathlib.Core.Bool.{false}
 use native.Mathlib.Omega.{arith}

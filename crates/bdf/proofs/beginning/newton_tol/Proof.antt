@@ -1,4 +1,4 @@
--- `begin::newton_tol` goes by the same test as its definition. Assumes nothing.
+-- `beginning::newton_tol` goes by the same test as its definition. Assumes nothing.
 use borrow.Author.Needs.{needs}
 use Rattle.loops.specs.Choice.{if_then_else_}
 use Rattle.rules.specs.Begin.{newtonTol}

@@ -1,4 +1,4 @@
--- `begin::nothing`: a state with nothing done. Assumes nothing.
+-- `beginning::nothing`: a state with nothing done. Assumes nothing.
 use borrow.Author.Needs.{needs}
 use Rattle.bdf.proofs.beginning.nothing.Statement.{statement}
 use Rattle.bdf.proofs.beginning.nothing.Tie as tie

@@ -1,4 +1,4 @@
--- `begin::span`: each field by its own call. Assumes nothing.
+-- `beginning::span`: each field by its own call. Assumes nothing.
 use borrow.Author.Needs.{needs}
 use Rattle.rules.specs.Begin.{spanOf}
 use Rattle.bdf.proofs.beginning.span.Statement.{statement}

@@ -1,4 +1,4 @@
--- `go_on::count_checked` goes by the tests of its definition, one answer a way. Assumes nothing.
+-- `going_on::count_checked` goes by the tests of its definition, one answer a way. Assumes nothing.
 use borrow.Author.Needs.{needs}
 use borrow.Author.Tests.{lt-ltb, le-ltb}
 use Rattle.loops.specs.Choice.{if_then_else_}

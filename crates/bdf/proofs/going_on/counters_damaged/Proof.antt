@@ -1,4 +1,4 @@
--- `go_on::counters_damaged`: past the bounds of the limits and the steps no product or sum wraps. Assumes nothing.
+-- `going_on::counters_damaged`: past the bounds of the limits and the steps no product or sum wraps. Assumes nothing.
 use mathlib.Core.Path.{_≡_, sym, _∙_}
 use Prim.Native.Nat.{_*_, _≤_}
 use native.Mathlib.Nat.{mul-le-mul}

@@ -1,4 +1,4 @@
--- `go_on::damaged` goes by the tests of its definition, one answer a way. Assumes nothing.
+-- `going_on::damaged` goes by the tests of its definition, one answer a way. Assumes nothing.
 use borrow.Author.Needs.{needs}
 use native.Mathlib.Omega.{arith}
 use borrow.Author.Tests.{lt-ltb, le-ltb, eq-eqb, ne-eqb}

@@ -1,4 +1,4 @@
--- `go_on::damaged_above_0` goes through the list of damage, one answer a way. Assumes nothing.
+-- `going_on::damaged_above_0` goes through the list of damage, one answer a way. Assumes nothing.
 use borrow.Author.Needs.{needs}
 use mathlib.Core.Path.{_≡_, sym, _∙_}
 use borrow.Author.Tests.{le-leb, lt-leb}

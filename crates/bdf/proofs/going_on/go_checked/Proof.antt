@@ -1,4 +1,4 @@
--- `go_on::go_checked` goes by the tests of its definition, one answer a way. Assumes nothing.
+-- `going_on::go_checked` goes by the tests of its definition, one answer a way. Assumes nothing.
 use borrow.Author.Needs.{needs}
 use mathlib.Core.Path.{_≡_, sym, _∙_}
 use Rattle.loops.specs.Choice.{if_then_else_}

@@ -1,4 +1,4 @@
--- `go_on::go_on`: the state's pivots, 32 of them, in an array of their own, are its pivots. Assumes nothing.
+-- `going_on::go_on`: the state's pivots, 32 of them, in an array of their own, are its pivots. Assumes nothing.
 use borrow.Author.Needs.{needs, length-unmapped}
 use mathlib.Core.Path.{refl, sym}
 use Rattle.bdf.proofs.going_on.go_on.Statement.{statement}

@@ -1,4 +1,4 @@
--- `go_on::go_said`: past the checks the state, the slices and the reply are as the run's stages ask. Assumes nothing.
+-- `going_on::go_said`: past the checks the state, the slices and the reply are as the run's stages ask. Assumes nothing.
 use borrow.Author.Needs.{needs}
 use mathlib.Core.Path.{_≡_, sym, ap, _∙_}
 use native.Mathlib.Omega.{arith}

@@ -1,4 +1,4 @@
--- `go_on::go_within`: the needed places are lent, and what lies beyond them stays. Assumes nothing.
+-- `going_on::go_within`: the needed places are lent, and what lies beyond them stays. Assumes nothing.
 use borrow.Author.Needs.{needs}
 use mathlib.Core.Path.{_≡_, sym}
 use Prim.Native.Nat.{_≤_}

@@ -1,4 +1,4 @@
--- `go_on::is_ended`: the arm of the other places. Assumes nothing.
+-- `going_on::is_ended`: the arm of the other places. Assumes nothing.
 use mathlib.Core.Path.{_≡_, refl}
 use mathlib.Core.List.{[], _∷_}
 use mathlib.Core.Bool.{false}

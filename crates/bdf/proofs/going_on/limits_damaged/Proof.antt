@@ -1,4 +1,4 @@
--- `go_on::limits_damaged` goes through the bounds one by one. Assumes nothing.
+-- `going_on::limits_damaged` goes through the bounds one by one. Assumes nothing.
 use borrow.Author.Tests.{le-leb, lt-leb}
 use Rattle.rules.specs.GoOn.{limitsDamaged}
 use Rattle.bdf.proofs.going_on.limits_damaged.Statement.{statement}

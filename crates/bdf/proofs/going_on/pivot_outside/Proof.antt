@@ -1,4 +1,4 @@
--- `go_on::pivot_outside`: none found below i; the first that is found decides. Assumes nothing.
+-- `going_on::pivot_outside`: none found below i; the first that is found decides. Assumes nothing.
 use borrow.Author.Needs.{needs}
 use mathlib.Core.Path.{_≡_, sym}
 use mathlib.Core.Bool.{false}

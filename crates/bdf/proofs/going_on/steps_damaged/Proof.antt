@@ -1,4 +1,4 @@
--- `go_on::steps_damaged` tells the sum's bound by a difference. Assumes nothing.
+-- `going_on::steps_damaged` tells the sum's bound by a difference. Assumes nothing.
 use native.Mathlib.Omega.{arith}
 use borrow.Author.Needs.{needs}
 use borrow.Author.Tests.{lt-ltb, le-ltb}

@@ -1,4 +1,4 @@
--- `go_on::values` goes by the same cases as its definition. Assumes nothing.
+-- `going_on::values` goes by the same cases as its definition. Assumes nothing.
 use borrow.Author.Needs.{needs}
 use Rattle.bdf.proofs.going_on.values.Statement.{statement}
 use Rattle.bdf.proofs.going_on.values.Tie as tie

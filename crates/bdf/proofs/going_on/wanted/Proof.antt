@@ -1,4 +1,4 @@
--- `go_on::wanted`: each arm has the places that its reply suits. Assumes nothing.
+-- `going_on::wanted`: each arm has the places that its reply suits. Assumes nothing.
 use mathlib.Core.Path.{_≡_, refl}
 use mathlib.Core.List.{[], _∷_}
 use native.Mathlib.Nat.{mul-le-mul}
