@@ -14,6 +14,7 @@ use Rattle.loops.specs.laws.RowLaws.{row-within}
 use Rattle.rules.specs.Types.{Turn}
 use Rattle.rules.specs.Places.{need, row, cont}
 use Rattle.rules.specs.State.{After, after}
+use Rattle.rules.specs.Replies.{Awaits}
 use Rattle.rules.specs.Moves.{loaded}
 use Rattle.rules.specs.laws.PartLaws.{loaded-over}
 use Rattle.rules.specs.laws.LengthLaws.{loaded-long}
@@ -33,9 +34,11 @@ pub record Speaks {A : Type 0} (Fits : A → ℕ → Type 0) (n : ℕ) (f : List
   pub long : length ws ≡ need n
   pub says : (q : List Float) → 8 * n ≤ length q → f q ≡ after is ws (fronted asked q)
 
--- a turn's answer says how many places it wrote, its state has n components, and the answer is no refusal
+-- a turn's answer says how many places it wrote, its state has n components, the answer is no refusal, and the state waits for
+-- what the answer asks for
 abbrev pub Says : ℕ → Turn → ℕ → Type 0
-Says n t k = (k ≡ written n (t .answer)) × (t .run .at .n ≡ n) × (isRefused (t .answer) ≡ false)
+Says n t k =
+    (k ≡ written n (t .answer)) × (t .run .at .n ≡ n) × (isRefused (t .answer) ≡ false) × Awaits n (t .answer) (t .run .awaited)
 
 -- so does an attempt's; a rejected one wrote nothing
 abbrev pub SaysTried : ℕ → Tried → ℕ → Type 0

@@ -1,10 +1,11 @@
 -- Every stage of the attempt and of a reply speaks: whatever the question slice held, the result and the workspace are the same,
--- and so is what was written over the slice's first places. And no stage answers with a refusal. (How the counters go through the
--- same stages is in PlaceLaws.antt: it asks how they stand before, and this asks nothing of a state.)
+-- and so is what was written over the slice's first places. And no stage answers with a refusal, and the state that it leaves waits
+-- for what its answer asks for. (How the counters go through the same stages is in PlaceLaws.antt: it asks how they stand before,
+-- and this asks nothing of a state.)
 use mathlib.Core.Path.{_≡_, refl, ap, subst}
 use mathlib.Core.List.{List, [], _∷_}
 use mathlib.Core.Bool.{true, false, false≢true}
-use Prim.Native.Nat.{ℕ, zero, suc}
+use Prim.Native.Nat.{ℕ, zero, suc, _*_}
 use native.Mathlib.Omega.{arith}
 use lib.ListN.{length}
 use lib.Ieee.{Float}
@@ -13,6 +14,7 @@ use Rattle.rules.specs.Types.{Progress, Turn, Awaited, Reply, Tolerance,
 use Rattle.rules.specs.Types.{FirstDerivative, FirstJacobian, StartDerivative, StartNotice, ModifiedStartDerivative, ModifiedStartJacobian, NewtonDerivative, FailedJacobian, StepNotice, ModifiedStepDerivative, ModifiedStepJacobian, OrderJacobian, Ended}
 use Rattle.rules.specs.Places.{need, y, y1, yNew, yPredict}
 use Rattle.rules.specs.State.{After, after}
+use Rattle.rules.specs.Replies.{valuesWant, wants}
 use Rattle.rules.specs.Attempt.{attempt, fittedAttempt, aimed, headed, guarded, halved, attemptAt, refactored, newtonStart, Tried, rejected, says, onward, tries, mainLoop}
 use Rattle.rules.specs.Moves.{loaded}
 use Rattle.rules.specs.Step.{errorRejected, judged, stepAccepted, newtonFailed, newtonAgain, iterated, newtonReplied}
@@ -41,7 +43,7 @@ Exact p ws = length ws ≡ need (p .n)
 newton-start-speaks : (p : Progress) (ws : List Float) → Exact p ws → Attempts p (newtonStart p ws)
 unfolding newtonStart
 newton-start-speaks p ws h =
-    speaks-told yNew _ _ (omega arith) (filled-long _ _ _ _ _ (copied-long _ _ _ _ ws h)) (refl, refl, refl)
+    speaks-told yNew _ _ (omega arith) (filled-long _ _ _ _ _ (copied-long _ _ _ _ ws h)) (refl, refl, refl, λ r. refl)
 
 refactored-speaks : (p : Progress) (ws : List Float) → Exact p ws → Attempts p (refactored p ws)
 unfolding refactored halved
@@ -60,19 +62,19 @@ attempt-at-speaks p ws h =
 guarded-speaks : (p : Progress) (ws : List Float) → Exact p ws → Attempts p (guarded p ws)
 unfolding guarded
 guarded-speaks p ws h =
-    speaks-either _ (λ _. speaks-nothing _ ws h (refl, refl, refl)) (λ _. attempt-at-speaks _ ws h)
+    speaks-either _ (λ _. speaks-nothing _ ws h (refl, refl, refl, refl)) (λ _. attempt-at-speaks _ ws h)
 
 headed-speaks : (p : Progress) (a : Aimed) (ws : List Float) → Exact p ws → Attempts p (headed p a ws)
-headed-speaks p AtEnd ws h = speaks-nothing _ ws h (refl, refl, refl)
+headed-speaks p AtEnd ws h = speaks-nothing _ ws h (refl, refl, refl, refl)
 headed-speaks p (At g a) ws h = guarded-speaks _ ws h
 
 attempt-speaks : (p : Progress) (ws : List Float) → Exact p ws → Attempts p (attempt p ws)
 unfolding attempt fittedAttempt
 attempt-speaks p ws h =
     speaks-either _
-    (λ _. speaks-nothing _ ws h (refl, refl, refl))
+    (λ _. speaks-nothing _ ws h (refl, refl, refl, refl))
     (λ _. speaks-either _
-    (λ _. speaks-nothing _ ws h (refl, refl, refl))
+    (λ _. speaks-nothing _ ws h (refl, refl, refl, refl))
     (λ _. headed-speaks _ (aimed _ _ .is) _ (aimed-keeps _ (exact p) _ (fitted-keeps p (exact p) ws h))))
 
 -- ---- the main loop
@@ -100,7 +102,7 @@ of-size p Fits {f} e s = subst (λ (m : ℕ). Speaks (Fits m) m f) e s
 
 tries-speaks : (k : ℕ) {n : ℕ} (p : Progress) (ws : List Float) → p .n ≡ n → length ws ≡ need n → Speaks (Says n) n (tries k p ws)
 unfolding tries
-tries-speaks zero p ws e h = speaks-nothing _ ws h (refl, e, refl)
+tries-speaks zero p ws e h = speaks-nothing _ ws h (refl, e, refl, refl)
 tries-speaks (suc k) {n} p ws e h = onward-speaks (tries k) (λ r v. tries-speaks k r v) (of-size p SaysTried e (attempt-speaks p ws (rw e h)))
 
 main-loop-speaks : {n : ℕ} (p : Progress) (ws : List Float) → p .n ≡ n → length ws ≡ need n → Speaks (Says n) n (mainLoop p ws)
@@ -112,7 +114,7 @@ main-loop-speaks p ws e h = tries-speaks _ p ws e h
 step-accepted-speaks : (p : Progress) (safety norm : Float) (ws : List Float) → Exact p ws → Attempts p (stepAccepted p safety norm ws)
 unfolding stepAccepted
 step-accepted-speaks p safety norm ws h =
-    speaks-notice y _ _ (omega arith) (accepted-long _ (p .n) (p .order) ws h) (refl, refl, refl)
+    speaks-notice y _ _ (omega arith) (accepted-long _ (p .n) (p .order) ws h) (refl, refl, refl, λ r. refl)
 
 judged-speaks : (p : Progress) (ws : List Float) → Exact p ws → Attempts p (judged p ws)
 unfolding judged errorRejected
@@ -128,8 +130,8 @@ iterated-speaks p norm ws h =
     speaks-either _
     (λ _. judged-speaks p ws h)
     (λ _. speaks-either _
-    (λ _. speaks-told yPredict _ ws (omega arith) h (refl, refl, refl))
-    (λ _. speaks-told yNew _ ws (omega arith) h (refl, refl, refl)))
+    (λ _. speaks-told yPredict _ ws (omega arith) h (refl, refl, refl, λ r. refl))
+    (λ _. speaks-told yNew _ ws (omega arith) h (refl, refl, refl, λ r. refl)))
 
 newton-replied-speaks : (p : Progress) (values ws : List Float) → Exact p ws → Attempts p (newtonReplied p values ws)
 unfolding newtonReplied
@@ -145,11 +147,11 @@ newton-turn-speaks p values ws h = onward-speaks mainLoop (λ r v. main-loop-spe
 
 started-speaks : (p : Progress) (hAbs : Float) (ws : List Float) → Exact p ws → Turns p (started p hAbs ws)
 unfolding started
-started-speaks p hAbs ws h = speaks-told y _ _ (omega arith) (differences-keep (exact p) _ _ ws h) (refl, refl, refl)
+started-speaks p hAbs ws h = speaks-told y _ _ (omega arith) (differences-keep (exact p) _ _ ws h) (refl, refl, refl, λ r. refl)
 
 hinit-asks-speaks : (p : Progress) (ws : List Float) → Exact p ws → Turns p (hinitAsks p ws)
 unfolding hinitAsks
-hinit-asks-speaks p ws h = speaks-told y1 _ _ (omega arith) (euler-keeps (exact p) _ ws h) (refl, refl, refl)
+hinit-asks-speaks p ws h = speaks-told y1 _ _ (omega arith) (euler-keeps (exact p) _ ws h) (refl, refl, refl, λ r. refl)
 
 first-step-speaks : (p : Progress) (s : Setting) (ws : List Float) → Exact p ws → Turns p (firstStep p s ws)
 unfolding firstStep
@@ -162,7 +164,7 @@ chosen-speaks : (p : Progress) (c : Choice) (ws : List Float) → Exact p ws →
 unfolding chosen
 chosen-speaks p c ws h =
     let w = rescaled-keeps (exact p) (c .order) (c .factor) ws h in
-    speaks-either _ (λ _. main-loop-speaks _ _ refl w) (λ _. speaks-told y _ _ (omega arith) w (refl, refl, refl))
+    speaks-either _ (λ _. main-loop-speaks _ _ refl w) (λ _. speaks-told y _ _ (omega arith) w (refl, refl, refl, λ r. refl))
 
 ordered-speaks : (p : Progress) (ws : List Float) → Exact p ws → Turns p (ordered p ws)
 unfolding ordered
@@ -172,7 +174,7 @@ stepped-speaks : (p : Progress) (ws : List Float) → Exact p ws → Turns p (st
 unfolding stepped
 stepped-speaks p ws h =
     speaks-either _
-    (λ _. speaks-nothing _ ws h (refl, refl, refl))
+    (λ _. speaks-nothing _ ws h (refl, refl, refl, refl))
     (λ _. speaks-either _ (λ _. ordered-speaks p ws h) (λ _. main-loop-speaks p ws refl h))
 
 -- ---- by the place
@@ -182,29 +184,32 @@ module _ (p : Progress) (values ws : List Float) (h : Exact p ws) where
   stored-long : (to n : ℕ) → Exact p (loaded values 0 to n ws)
   stored-long to n = loaded-long _ values 0 to n ws h
 
-  modified-speaks : (w : Awaited) (x : Float) → Turns p (modified w p x values ws)
+  -- at a place that waits for a derivative
+  modified-speaks : (w : Awaited) (x : Float) → ((r : Reply) → wants (p .n) w r ≡ valuesWant (p .n) r) → Turns p (modified w p x values ws)
   unfolding modified
-  modified-speaks w x = speaks-told y _ _ (omega arith) (stored-long _ _) (refl, refl, refl)
+  modified-speaks w x waits = speaks-told y _ _ (omega arith) (stored-long _ _) (refl, refl, refl, waits)
 
-  restarted-speaks : (w : Awaited) → Turns p (restarted w p values ws)
+  -- at one that waits for a Jacobian
+  restarted-speaks : (w : Awaited) → ((r : Reply) → wants (p .n) w r ≡ valuesWant (p .n * p .n) r) → Turns p (restarted w p values ws)
   unfolding restarted
-  restarted-speaks w = speaks-told y _ _ (omega arith) (differences-keep (exact p) _ _ _ (stored-long _ _)) (refl, refl, refl)
+  restarted-speaks w waits =
+      speaks-told y _ _ (omega arith) (differences-keep (exact p) _ _ _ (stored-long _ _)) (refl, refl, refl, waits)
 
   start-noticed-speaks : (r : Reply) → Turns p (startNoticed p r values ws)
   start-noticed-speaks Continue = main-loop-speaks p ws refl h
-  start-noticed-speaks Interrupt = speaks-nothing _ ws h (refl, refl, refl)
-  start-noticed-speaks (Modified x) = modified-speaks ModifiedStartDerivative x
+  start-noticed-speaks Interrupt = speaks-nothing _ ws h (refl, refl, refl, refl)
+  start-noticed-speaks (Modified x) = modified-speaks ModifiedStartDerivative x (λ r. refl)
   start-noticed-speaks Values = main-loop-speaks p ws refl h
 
   step-noticed-speaks : (r : Reply) → Turns p (stepNoticed p r values ws)
   step-noticed-speaks Continue = stepped-speaks p ws h
-  step-noticed-speaks Interrupt = speaks-nothing _ ws h (refl, refl, refl)
-  step-noticed-speaks (Modified x) = modified-speaks ModifiedStepDerivative x
+  step-noticed-speaks Interrupt = speaks-nothing _ ws h (refl, refl, refl, refl)
+  step-noticed-speaks (Modified x) = modified-speaks ModifiedStepDerivative x (λ r. refl)
   step-noticed-speaks Values = stepped-speaks p ws h
 
   first-derivative-speaks : Turns p (firstDerivative p values ws)
   unfolding firstDerivative
-  first-derivative-speaks = speaks-told y _ _ (omega arith) (stored-long _ _) (refl, refl, refl)
+  first-derivative-speaks = speaks-told y _ _ (omega arith) (stored-long _ _) (refl, refl, refl, λ r. refl)
 
   hinit-replied-speaks : Turns p (hinitReplied p values ws)
   unfolding hinitReplied
@@ -235,15 +240,15 @@ module _ (p : Progress) (values ws : List Float) (h : Exact p ws) where
   replied-speaks FirstJacobian r = first-jacobian-speaks
   replied-speaks StartDerivative r = hinit-replied-speaks
   replied-speaks StartNotice r = start-noticed-speaks r
-  replied-speaks ModifiedStartDerivative r = restarted-speaks ModifiedStartJacobian
+  replied-speaks ModifiedStartDerivative r = restarted-speaks ModifiedStartJacobian (λ r. refl)
   replied-speaks ModifiedStartJacobian r = restart-jacobian-speaks
   replied-speaks NewtonDerivative r = newton-turn-speaks p values ws h
   replied-speaks FailedJacobian r = failed-speaks
   replied-speaks StepNotice r = step-noticed-speaks r
-  replied-speaks ModifiedStepDerivative r = restarted-speaks ModifiedStepJacobian
+  replied-speaks ModifiedStepDerivative r = restarted-speaks ModifiedStepJacobian (λ r. refl)
   replied-speaks ModifiedStepJacobian r = step-jacobian-speaks
   replied-speaks OrderJacobian r = order-jacobian-speaks
-  replied-speaks Ended r = speaks-nothing _ ws h (refl, refl, refl)
+  replied-speaks Ended r = speaks-nothing _ ws h (refl, refl, refl, refl)
 
 -- ---- the beginning
 
@@ -252,4 +257,4 @@ pub ask-first-speaks :
     let n = length y0 in length ws ≡ need n → Speaks (Says n) n (askFirst (kept s n x0 xend r rs) y0 r rs a als ws)
 unfolding askFirst kept
 ask-first-speaks s x0 xend y0 r rs a als ws h =
-    speaks-told y _ _ (omega arith) (begin-long (need (length y0)) (length y0) y0 r rs a als ws h) (refl, refl, refl)
+    speaks-told y _ _ (omega arith) (begin-long (need (length y0)) (length y0) y0 r rs a als ws h) (refl, refl, refl, λ r. refl)

@@ -7,7 +7,7 @@ use lib.ListN.{take}
 use lib.Seq.{length-take-le}
 use lib.Ieee.{Float}
 use Rattle.rules.specs.Types.{Run, Turn, Ended}
-use Rattle.rules.specs.Answers.{isRefused}
+use Rattle.rules.specs.Answers.{isRefused, written}
 use Rattle.rules.specs.Places.{need}
 use Rattle.rules.specs.State.{turn, After, after}
 use Rattle.rules.specs.Begin.{nothing, askFirst, beginRun}
@@ -15,18 +15,24 @@ use Rattle.rules.specs.GoOn.{goWithin}
 use Rattle.rules.specs.laws.GoOnLaws.{handed}
 use Rattle.rules.specs.Calls.{Configuration, beginning, Call, goingOn, goingOnChecked, goingOnPassed}
 use Rattle.rules.specs.laws.CallLaws.{beginning-cases, going-on-cases}
+use Rattle.rules.specs.laws.QuestionLaws.{Says}
 use Rattle.rules.specs.laws.SpeakLaws.{replied-speaks}
 use Rattle.rules.specs.declared.stages.Check.the-variants.{Passed}
 
--- past the checks nothing refuses
-pub passed-answers : (run : Run) (call : Call) → goingOnChecked run call ≡ Passed → isRefused (goingOnPassed run call .is .answer) ≡ false
-unfolding goWithin
-passed-answers run call e =
-    let good = handed (run .awaited) (run .at) (call .reply) (call .values) (call .ws) (call .q) e in
-    let wide = need (run .at .n) in
-    let exact = length-take-le wide (call .ws) (good .works) in
-    let s = replied-speaks (run .at) (call .values) (take wide (call .ws)) exact (run .awaited) (call .reply) in
-    rw (s .says (call .q) (good .ready .asks)) (s .fits .2)
+module _ (run : Run) (call : Call) (e : goingOnChecked run call ≡ Passed) where
+  -- past the checks a call says what its answer tells, and waits for what it asks for
+  pub passed-says : let t = goingOnPassed run call .is in Says (run .at .n) t (written (run .at .n) (t .answer))
+  unfolding goWithin
+  passed-says =
+      let good = handed (run .awaited) (run .at) (call .reply) (call .values) (call .ws) (call .q) e in
+      let wide = need (run .at .n) in
+      let exact = length-take-le wide (call .ws) (good .works) in
+      let s = replied-speaks (run .at) (call .values) (take wide (call .ws)) exact (run .awaited) (call .reply) in
+      rw (s .says (call .q) (good .ready .asks)) (refl, s .fits .1, s .fits .2, s .fits .3)
+
+  -- so past the checks nothing refuses
+  pub passed-answers : isRefused (goingOnPassed run call .is .answer) ≡ false
+  passed-answers = passed-says .2
 
 -- a call that is refused leaves the workspace and the question slice, and hands back the state that it was given
 pub refused-call :
