@@ -1,0 +1,6 @@
+-- What holds of replies, lines and listings, for our own proofs.
+pub mod ReplyLaws
+pub mod PutLaws
+pub mod FilledLaws
+pub mod LengthLaws
+pub mod TellingLaws
