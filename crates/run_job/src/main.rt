@@ -1,20 +1,55 @@
-// The job program: reads a packed job from standard input, runs it, and prints a line for each notice, for the end or for a
-// refusal. Where a write fails it stops and says so on standard error: a program of this language has no exit status.
-mod run;
-
+// The job program: reads a packed job from standard input and prints its listing, page by page. Where a write fails it stops and
+// says so on standard error: a program of this language has no exit status.
+use job::CELLS;
 use libc::STDERR_FILENO;
 use libc::STDIN_FILENO;
+use libc::STDOUT_FILENO;
+use listing::Listing;
+use listing::QUESTION;
+use listing::Said;
+use listing::WORKSPACE;
 
 // One byte more than the longest job tells a file that is longer; no more of it is read.
 const ENOUGH: usize = job::LONGEST + 1;
 
 fn main() {
     let mut file = [0u8; ENOUGH];
-    let mut out = io::large_buffer();
+    let mut a = [0.0f64; CELLS];
+    let mut ws = [0.0f64; WORKSPACE];
+    let mut q = [0.0f64; QUESTION];
     let len = io::read_full(STDIN_FILENO, &mut file);
-    let place = run::run(&file[..len], &mut out);
-    let end = output::flush(&out, place);
-    if !text::stands(end) {
+    let first = listing::open(&file[..len], &mut a, &mut ws, &mut q);
+    if !print(first, &a, &mut ws, &mut q) {
         io::write_all(STDERR_FILENO, b"run_job: standard output was not written\n");
+    }
+}
+
+// Every page of a listing. Every listing ends, but what this program knows of it does not say so: it counts pages down, from a
+// number that no listing uses up. A page without a line cannot be, and is taken for one that was not written.
+fn print(
+    first: Listing,
+    a: &[f64; CELLS],
+    ws: &mut [f64; WORKSPACE],
+    q: &mut [f64; QUESTION],
+) -> bool {
+    let mut out = io::large_buffer();
+    let mut l = first;
+    let mut written = true;
+    let mut left = u64::MAX;
+    while left > 0 && written && !is_over(l) {
+        let page = listing::next_page(l, a, ws, q, &mut out);
+        let length = page.length;
+        written = length > 0 && io::write_all(STDOUT_FILENO, &out[..length]);
+        l = page.listing;
+        left -= 1;
+    }
+    written && is_over(l)
+}
+
+fn is_over(l: Listing) -> bool {
+    let said = l.said;
+    match said {
+        Said::Over => true,
+        _ => false,
     }
 }
