@@ -132,14 +132,17 @@ arrived UserInterrupt some x still e = absurd (omega arith)
 arrived NeedLargerNMax some x still e = absurd (omega arith)
 arrived StepSizeTooSmall some x still e = absurd (omega arith)
 
--- where the last line says `E 0`, and there are components, the x of the last notice, which the last `I` or `S` line prints, lies at
--- xend or beyond it in the run's direction
+-- a job that was read has as many components as it says
+pub with-components :
+    (s : List ℕ) (j : Job) → reading s .0 ≡ gives j → length (configured (reading s) j .y0) ≡ j .n
+with-components s j e =
+    let few : j .n ≤ maxN = read-serves s _ _ j e in
+    length-take-le (j .n) (reading s .1) (omega (arith, reading-sized s .0))
+
+-- where the last line says `E 0`, and there are components, the x of the last notice lies at xend or beyond it in the run's direction
 pub success-is-the-end :
     (s : List ℕ) (j : Job) → reading s .0 ≡ gives j → 1 ≤ j .n → let c = configured (reading s) j in
     (r : Ran c (reading s .2) (beginningOf (reading s) j) [] (printed s)) → r .status ≡ Success →
     Arrived (direction c) (j .xend) (lastToldX (r .past) (j .x0))
 success-is-the-end s j e some r success =
-    let y0 = reading s .1 in
-    let few : j .n ≤ maxN = read-serves s _ _ j e in
-    let all : length (take (j .n) y0) ≡ j .n = length-take-le (j .n) y0 (omega (arith, reading-sized s .0)) in
-    arrived (r .status) (omega arith) (r .exchange) (r .still) (ap statusOf success)
+    arrived (r .status) (omega (arith, with-components s j e)) (r .exchange) (r .still) (ap statusOf success)
