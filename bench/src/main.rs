@@ -25,6 +25,7 @@ fn main() {
     matrix(&dir, random);
     interpolation(&dir, random);
     runs(&dir);
+    jobs(&dir, random);
     cvode(&dir);
 }
 
@@ -68,6 +69,7 @@ impl Row<'_> {
 
 unsafe extern "C" {
     fn clock_gettime(clock: i32, time: *mut [i64; 2]) -> i32;
+    fn getrusage(who: i32, usage: *mut [i64; 18]) -> i32;
 }
 
 /// The processor time that this process has used, as the drivers take it: the clock 2 of C's library on Linux.
@@ -165,6 +167,40 @@ fn runs(dir: &Path) {
             one_run(dir, &problem, rtol, atol);
         }
     }
+}
+
+/// The job program as a whole process beside one over the Rust with document 01's powers put in: reading, solving, printing.
+fn jobs(dir: &Path, random: &mut Random) {
+    println!();
+    println!("{:<26} {:>8} {:>10} {:>10} {:>8}  {}", "a job, as a process", "lines", "ours, ms", "patched", "ratio", "same bytes");
+    for (n, xend, rtol) in [(1, 500.0, 1e-9), (4, 400.0, 1e-8), (16, 150.0, 1e-8), (32, 40.0, 1e-8)] {
+        let job = problems::long_job(n, xend, rtol, random);
+        let (mut best, mut told) = ([f64::INFINITY; 2], [vec![], vec![]]);
+        for _ in 0..ROUNDS {
+            for (i, program) in ["run_job", "job"].iter().enumerate() {
+                let start = children();
+                told[i] = printed(&dir.join(program), &job);
+                best[i] = best[i].min(children() - start);
+            }
+        }
+        let lines = told[0].iter().filter(|&&b| b == b'\n').count();
+        let same = if told[0] == told[1] { "yes" } else { "NO" };
+        println!("{:<26} {lines:>8} {:>10.2} {:>10.2} {:>8.2}  {same}", format!("n {n}"), best[0], best[1], best[0] / best[1]);
+    }
+}
+
+/// What a program prints for a job. Its lines are few enough bytes that nobody waits for the other.
+fn printed(program: &Path, job: &[u8]) -> Vec<u8> {
+    let mut child = Command::new(program).stdin(Stdio::piped()).stdout(Stdio::piped()).spawn().unwrap();
+    child.stdin.take().unwrap().write_all(job).unwrap();
+    child.wait_with_output().unwrap().stdout
+}
+
+/// The processor time of the programs that were started and have ended, in milliseconds.
+fn children() -> f64 {
+    let mut usage = [0; 18];
+    unsafe { getrusage(-1, &mut usage) };
+    (usage[0] + usage[2]) as f64 * 1e3 + (usage[1] + usage[3]) as f64 / 1e3
 }
 
 const TOLERANCES: [(f64, f64); 2] = [(1e-6, 1e-9), (1e-3, 1e-6)];

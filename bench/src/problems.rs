@@ -129,3 +129,23 @@ fn wave(x: f64) -> f64 {
     let r = periods - ((periods + 6755399441055744.0) - 6755399441055744.0);
     20.78 * r * (0.25 - r * r)
 }
+
+/// A packed job of some 10,000 steps: growth for n 1, otherwise n / 2 pairs that swing, each at its own speed and faintly joined.
+pub fn long_job(n: usize, xend: f64, rtol: f64, random: &mut crate::random::Random) -> Vec<u8> {
+    let mut a = vec![0.0; n * n];
+    if n == 1 {
+        a[0] = 1.0;
+    } else {
+        a.fill_with(|| 1e-3 * random.signed());
+        for i in (0..n).step_by(2) {
+            let speed = 1.0 + 0.3 * i as f64;
+            a[i * n + i + 1] += speed;
+            a[(i + 1) * n + i] -= speed;
+        }
+    }
+    let head = (n as u64) << 34 | 1_000_000 << 14 | 4 << 7 | 1 << 6;
+    let doubles = [&[0.0, xend, 0.0, rtol, 1e-12][..], &vec![1.0; n], &a].concat();
+    let mut bytes = head.to_be_bytes()[3..].to_vec();
+    bytes.extend(doubles.iter().flat_map(|x| x.to_be_bytes()));
+    bytes
+}

@@ -1,5 +1,5 @@
 // A job's listing: every line that the job program prints for a file, given page by page.
-mod lines_of;
+mod answer;
 mod opening;
 mod pages;
 mod replies;

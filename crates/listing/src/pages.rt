@@ -10,7 +10,7 @@ ghost use Rattle.rules.specs.State.{after};
 ghost use Rattle.listing.specs.declared.pages.Stop.the-variants.{Not};
 ghost use Rattle.listing.specs.Pages.{overOf, pageOf, goesOn, enough, sheetOf, givenOf, refusedAt, pagedOf, nextPage};
 ghost use Rattle.listing.specs.Pages.{onward as onwardOf, answered as answeredOf, filled as filledOf};
-use crate::lines_of::put_line;
+use crate::answer::answer_line;
 use crate::opening::Listing;
 use crate::opening::QUESTION;
 use crate::opening::Said;
@@ -58,7 +58,7 @@ pub fn next_page(
     let said = l.said;
     let run = l.run;
     match said {
-        Said::Told(answer) => told(Turn { answer, run }, a, ws, q, out),
+        Said::Told(answer) => paged(Turn { answer, run }, a, ws, q, out),
         Said::Refused(number) => refused(number, run, out),
         Said::Over => page_of(over(run), 0),
     }
@@ -93,7 +93,7 @@ fn refused(number: u64, run: Run, out: &mut [u8]) -> Page
 }
 
 // The arrays as slices, whose lengths their types say.
-fn told(
+fn paged(
     turn: Turn,
     a: &[f64; CELLS],
     ws: &mut [f64; WORKSPACE],
@@ -149,7 +149,7 @@ fn answered(
 {
     let turn = s.turn;
     let length = s.length;
-    match put_line(out, length, turn, q) {
+    match answer_line(out, length, turn, q) {
         Place::At(next) => onward(turn, next, a, values, ws, q),
         Place::Full => Sheet {
             turn,

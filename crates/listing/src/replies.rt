@@ -53,7 +53,7 @@ fn reply_to(answer: Answer) -> Reply
 
 // The values of a reply go to the first places of `values`; how many they are. For more components than are served, none: a
 // forged state that says so is refused, whatever is replied.
-fn write_values(answer: Answer, n: usize, a: &[f64], q: &[f64], values: &mut [f64]) -> usize
+fn values_for(answer: Answer, n: usize, a: &[f64], q: &[f64], values: &mut [f64]) -> usize
     requires { ⌜ (length (now a) ≡ maxN * maxN) × ((length (now q) ≡ 8 * maxN) × (length (now values) ≡ maxN * maxN)) ⌝ }
     ensures { λ r. ⌜ (r ≤ maxN * maxN) × (n ≤ maxN → take r (now (values .exit)) ≡ valuesFor (take (n * n) (now (a .entry))) (take n (now (q .entry))) answer) ⌝ }
 {
@@ -104,6 +104,6 @@ pub(crate) fn replied(
 {
     let answer = turn.answer;
     let run = turn.run;
-    let count = write_values(answer, run.at.n, a, q, values);
+    let count = values_for(answer, run.at.n, a, q, values);
     go_on(run, reply_to(answer), &values[..count], ws, q)
 }

@@ -16,7 +16,7 @@ beside ws q e = ap (λ (p : Page × List ℕ). (after (p .0) ws q, p .1)) e
 
 returns : tie.Need-returns
 unfolding nextPage
-returns c = c .before .before .told .ensures ∙ rw (c .before .before .before .before .before .before .before .said .given .1) refl
+returns c = c .before .before .paged .ensures ∙ rw (c .before .before .before .before .before .before .before .said .given .1) refl
 
 returns-2 : tie.Need-returns-2
 unfolding nextPage

@@ -36,21 +36,21 @@ reply-taken a g values e = by-test _ refl
         let above : maxN < size g = leb-false (size g) maxN many in
         too-many-refused _ _ values _ _ above ∙ sym (too-many-refused _ _ _ _ _ above)
 
-write-values-requires : tie.Need-write-values-requires
-write-values-requires c κs = (c .before .before .before .before .before .before .before .pre .0, (c .before .before .before .before .before .before .before .pre .1 .1, c .before .before .before .before .before .before .before .pre .1 .0))
+values-for-requires : tie.Need-values-for-requires
+values-for-requires c κs = (c .before .before .before .before .before .before .before .pre .0, (c .before .before .before .before .before .before .before .pre .1 .1, c .before .before .before .before .before .before .before .pre .1 .0))
 
 slice-aggregate-go-on : tie.Need-slice-aggregate-go-on
-slice-aggregate-go-on c = front _ _ (omega (arith, c .before .before .before .before .write-values .ensures .0, c .before .before .before .before .write-values .kept))
+slice-aggregate-go-on c = front _ _ (omega (arith, c .before .before .before .before .values-for .ensures .0, c .before .before .before .before .values-for .kept))
 
 returns : tie.Need-returns
 returns c =
-    c .before .before .before .before .go-on .ensures ∙ rw (c .before .before .before .before .before .before .before .before .reply-to .ensures) (reply-taken _ (after (c .before .before .before .before .before .before .before .before .before .before .before .before .before .before .before .before .before .before .before .args .turn) (c .before .before .before .before .before .before .before .before .before .before .before .before .before .before .before .before .before .before .before .args .ws .now) (c .before .before .before .before .before .before .before .before .before .before .before .before .before .before .before .before .before .before .before .args .q .now)) _ (c .before .before .before .before .before .before .before .before .before .before .before .write-values .ensures .1))
+    c .before .before .before .before .go-on .ensures ∙ rw (c .before .before .before .before .before .before .before .before .reply-to .ensures) (reply-taken _ (after (c .before .before .before .before .before .before .before .before .before .before .before .before .before .before .before .before .before .before .before .args .turn) (c .before .before .before .before .before .before .before .before .before .before .before .before .before .before .before .before .before .before .before .args .ws .now) (c .before .before .before .before .before .before .before .before .before .before .before .before .before .before .before .before .before .before .before .args .q .now)) _ (c .before .before .before .before .before .before .before .before .before .before .before .values-for .ensures .1))
 
 pub replied-spec : {M : Type 1} → statement M
 replied-spec =
     tie.close
     (tie.spec
-    write-values-requires
+    values-for-requires
     (λ c κs. search needs)
     (λ c. search needs)
     slice-aggregate-go-on

@@ -1,9 +1,9 @@
--- `lines_of::within` meets its contract: the test is the definition's. Assumes nothing.
+-- `answer::within` meets its contract: the test is the definition's. Assumes nothing.
 use mathlib.Core.Path.{sym}
 use borrow.Author.Tests.{lt-ltb, le-ltb}
 use Rattle.loops.specs.laws.ChoiceLaws.{when-true, when-false}
-use Rattle.listing.proofs.lines_of.within.Statement.{statement}
-use Rattle.listing.proofs.lines_of.within.Tie as tie
+use Rattle.listing.proofs.answer.within.Statement.{statement}
+use Rattle.listing.proofs.answer.within.Tie as tie
 
 returns : tie.Need-returns
 returns c = sym (when-true _ _ (lt-ltb _ _ (c .if1 .taken)))

@@ -12,7 +12,7 @@ use bdf::types::Turn;
 use text::Place;
 
 // The state told stands in the first places of q, as many as there are components.
-pub(crate) fn put_line(out: &mut [u8], at: usize, turn: Turn, q: &[f64]) -> Place
+pub(crate) fn answer_line(out: &mut [u8], at: usize, turn: Turn, q: &[f64]) -> Place
     requires { ⌜ at ≤ length (now out) ⌝ }
     ensures { λ r. ⌜ (r, now (out .exit)) ≡ puts (answerLine (turn .answer) (take (turn .run .at .n) (now (q .entry))) (turn .run .at .steps) (turn .run .at .evals)) (At at, now (out .entry)) ⌝ }
 {

@@ -1,4 +1,4 @@
--- `replies::write_values` meets its contract: the sizes agree, so A y is written whole, and A is copied whole. Assumes nothing.
+-- `replies::values_for` meets its contract: the sizes agree, so A y is written whole, and A is copied whole. Assumes nothing.
 use mathlib.Core.Path.{_≡_, refl, sym, ap, _∙_}
 use mathlib.Core.Bool.{Bool}
 use mathlib.Core.List.{List, _++_}
@@ -15,8 +15,8 @@ use Rattle.listing.specs.Types.{Answer, Derivative, Jacobian}
 use Rattle.listing.specs.Replies.{timesOf, valuesFor}
 use Rattle.listing.specs.laws.ReplyLaws.{right-side-writes}
 use Rattle.listing.specs.laws.LengthLaws.{times-long}
-use Rattle.listing.proofs.replies.write_values.Statement.{statement}
-use Rattle.listing.proofs.replies.write_values.Tie as tie
+use Rattle.listing.proofs.replies.values_for.Statement.{statement}
+use Rattle.listing.proofs.replies.values_for.Tie as tie
 
 module _ (n : ℕ) (a q values : List Float) (few : n ≤ maxN) (wide : length a ≡ maxN * maxN) (asks : length q ≡ 8 * maxN) (room : length values ≡ maxN * maxN) where
   -- A y over the first n places
@@ -89,8 +89,8 @@ returns-6 c = (omega arith, λ few. rw (c .enum-told5 .given .1))
 returns-7 : tie.Need-returns-7
 returns-7 c = (omega arith, λ few. rw (c .enum-told6 .given .1))
 
-pub write-values-spec : {M : Type 1} → statement M
-write-values-spec =
+pub values-for-spec : {M : Type 1} → statement M
+values-for-spec =
     tie.close
     (tie.spec
     returns

@@ -1,4 +1,4 @@
--- `lines_of::put_line` meets its contract: nothing is put for a question, and each other line is what its own contract says, over as
+-- `answer::answer_line` meets its contract: nothing is put for a question, and each other line is what its own contract says, over as
 -- many places of the slice as there are components. Assumes nothing.
 use mathlib.Core.Path.{_≡_, refl, sym, _∙_}
 use mathlib.Core.List.{List}
@@ -15,8 +15,8 @@ use Rattle.lines.specs.Lines.{startLine, stepLine}
 use Rattle.listing.specs.Types.{Answer, Start, Step, Steps, Evals}
 use Rattle.listing.specs.Printed.{answerLine}
 use Rattle.listing.specs.laws.PutLaws.{taken-within, lesser-within, nothing-put}
-use Rattle.listing.proofs.lines_of.put_line.Statement.{statement}
-use Rattle.listing.proofs.lines_of.put_line.Tie as tie
+use Rattle.listing.proofs.answer.answer_line.Statement.{statement}
+use Rattle.listing.proofs.answer.answer_line.Tie as tie
 
 -- the lesser of the components and the places
 abbrev Cut : ℕ → List Float → ℕ → Type 0
@@ -62,8 +62,8 @@ returns-5 c = c .before .before .end-line .ensures ∙ rw (c .before .before .be
 returns-6 : tie.Need-returns-6
 returns-6 c = c .before .before .refusal-line .ensures ∙ rw (c .before .before .before .number-of .ensures, c .before .before .before .before .before .before .answer4 .given .1) refl
 
-pub put-line-spec : {M : Type 1} → statement M
-put-line-spec =
+pub answer-line-spec : {M : Type 1} → statement M
+answer-line-spec =
     tie.close
     (tie.spec
     (λ c κs. search needs)
