@@ -4,3 +4,6 @@ pub mod PutLaws
 pub mod FilledLaws
 pub mod LengthLaws
 pub mod TellingLaws
+pub mod ShortLaws
+pub mod FitsLaws
+pub mod YieldLaws

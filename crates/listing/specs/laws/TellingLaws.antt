@@ -68,19 +68,19 @@ module _ (a : List Float) (wide : length a ≡ maxN * maxN) where
 -- ---- from answer to answer
 
 -- an exchange of ours has come as far as g, and printed `before` up to there
-record Come (c : Configuration) (a : List Float) (g : After Turn) (before : List ℕ) (past : List Answer) : Type 0 where
-  exchange : Exchange c (g .is .run) (g .is .answer ∷ past)
-  left : leaves exchange ≡ g
-  ours : Ours a exchange
-  still : StillAsTold exchange
-  alone : LeftAlone exchange
-  lines : linesOf exchange ≡ before ++ lineOf g
-  works : length (g .ws) ≡ need maxN
-  asks : length (g .q) ≡ 8 * maxN
+pub record Come (c : Configuration) (a : List Float) (g : After Turn) (before : List ℕ) (past : List Answer) : Type 0 where
+  pub exchange : Exchange c (g .is .run) (g .is .answer ∷ past)
+  pub left : leaves exchange ≡ g
+  pub ours : Ours a exchange
+  pub still : StillAsTold exchange
+  pub alone : LeftAlone exchange
+  pub lines : linesOf exchange ≡ before ++ lineOf g
+  pub works : length (g .ws) ≡ need maxN
+  pub asks : length (g .q) ≡ 8 * maxN
 
 module _ {c : Configuration} (a : List Float) (wide : length a ≡ maxN * maxN) where
   -- past a question or a notice comes one more answer
-  come-on :
+  pub come-on :
       (g : After Turn) (before : List ℕ) (past : List Answer) → Come c a g before past → isQuestionOrNotice (g .is .answer) ≡ true →
       Come c a (replied a g) (before ++ lineOf g) (g .is .answer ∷ past)
   unfolding replied
@@ -166,13 +166,11 @@ module _ {c : Configuration} (a : List Float) (wide : length a ≡ maxN * maxN) 
       one-before g before _ e (come-through k (replied a g) (before ++ lineOf g) (g .is .answer ∷ past) (come-on g before past come e) (omega arith)))
       (λ e. come-to-end (g .is .answer) (g .is .run) (g .ws) (g .q) before past come e)
 
-  -- so the whole run of a configuration that is accepted
-  pub begun-runs : isRefused (begun c noWork noQuestion .answer) ≡ false → Ran c a (beginning c noWork noQuestion) [] (runLines c a)
-  begun-runs taken =
-      let g = beginning c noWork noQuestion in
+  -- an exchange of a configuration that is accepted has come as far as its beginning
+  pub come-to-begin : isRefused (begun c noWork noQuestion .answer) ≡ false → Come c a (beginning c noWork noQuestion) [] []
+  come-to-begin taken =
       let kept = beginning-keeps-lengths c noWork noQuestion in
-      come-through (most c) g [] []
-      (record {
+      record {
         exchange = begins noWork noQuestion taken;
         left = refl;
         ours = (refl, refl);
@@ -181,5 +179,8 @@ module _ {c : Configuration} (a : List Float) (wide : length a ≡ maxN * maxN) 
         lines = refl;
         works = kept .0 ∙ length-replicate (need maxN) +0;
         asks = kept .1 ∙ length-replicate (8 * maxN) +0;
-      })
-      (omega arith)
+      }
+
+  -- so the whole run of it
+  pub begun-runs : isRefused (begun c noWork noQuestion .answer) ≡ false → Ran c a (beginning c noWork noQuestion) [] (runLines c a)
+  begun-runs taken = come-through (most c) (beginning c noWork noQuestion) [] [] (come-to-begin taken) (omega arith)
