@@ -1,5 +1,5 @@
 -- A listing, page by page: what is due goes from call to call by value, and each page takes as many whole lines as it has room for.
--- That the pages, one after another, are the whole output is in promises/PagesLaw.antt.
+-- That the pages, one after another, are the whole output is in promises/PagesJoin.antt, that they come to their end in PagesEnd.antt.
 use mathlib.Core.Bool.{Bool, true, false}
 use mathlib.Core.List.{List}
 use Prim.Native.Nat.{ℕ, zero, suc, _*_, _-_, _^_}

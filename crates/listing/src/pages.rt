@@ -45,7 +45,7 @@ enum Stop {
 // More answers than any run has.
 const ENOUGH: u64 = u64::MAX;
 
-// The next page of a listing. Where the first line that is due has no room on it, nothing changes.
+// The next page of a listing. Where its next line has no room the page stays empty, and the line is due on the one after it.
 pub fn next_page(
     l: Listing,
     a: &[f64; CELLS],

@@ -24,8 +24,8 @@ fn main() {
     }
 }
 
-// Every page of a listing. Every listing ends, but what this program knows of it does not say so: it counts pages down, from a
-// number that no listing uses up. A page without a line cannot be, and is taken for one that was not written.
+// Every page of a listing. That its pages end, and that each has a line, is proved of the listing and not used here: the pages are
+// counted down from a number that none uses up, and one without a line would be taken for one that was not written.
 fn print(
     first: Listing,
     a: &[f64; CELLS],
