@@ -2,13 +2,11 @@
 -- That the pages, one after another, are the whole output is in promises/PagesJoin.antt, that they come to their end in PagesEnd.antt.
 use mathlib.Core.Bool.{Bool, true, false}
 use mathlib.Core.List.{List}
-use Prim.Native.Nat.{ℕ, zero, suc, _*_, _-_, _^_}
-use lib.ListN.{take, replicate}
+use Prim.Native.Nat.{ℕ, zero, suc, _-_, _^_}
+use lib.ListN.{take}
 use lib.Ieee.{Float}
-use Rattle.loops.specs.Arithmetic.{+0}
 use Rattle.loops.specs.Choice.{if_then_else_}
 use Rattle.loops.specs.Refusal.{gives, refuses}
-use Rattle.matrix.specs.Size.{maxN}
 use Rattle.text.specs.declared.page.Place.the-variants.{At, Full}
 use Rattle.text.specs.Page.{Page as Put, puts}
 use Rattle.lines.specs.Lines.{refusalLine}
@@ -16,12 +14,12 @@ use Rattle.rules.specs.Answers.{isQuestionOrNotice}
 use Rattle.rules.specs.State.{After, after}
 use Rattle.rules.specs.Begin.{nothing}
 use Rattle.rules.specs.Calls.{beginning}
-use Rattle.job.specs.Reading.{ReadOutcome, readOf}
+use Rattle.job.specs.Reading.{ReadOutcome}
 use Rattle.listing.specs.Types.{Ended, Run, Turn}
 use Rattle.listing.specs.Replies.{replied}
-use Rattle.listing.specs.Printed.{lineOf, configurationOf}
+use Rattle.listing.specs.Printed.{lineOf, configurationOf, reading}
 use Rattle.listing.specs.declared.opening.Said.{Said}
-use Rattle.listing.specs.declared.opening.Said.the-variants.{Told, Refused, Over}
+use Rattle.listing.specs.declared.opening.Said.the-variants.{Told, NoJob, Over}
 use Rattle.listing.specs.declared.opening.Listing.{Listing}
 use Rattle.listing.specs.declared.pages.Page.{Page}
 use Rattle.listing.specs.declared.pages.Sheet.{Sheet}
@@ -36,23 +34,27 @@ dueOf t = record { said = Told (t .answer); run = t .run }
 
 -- the line of a file's refusal: there is no run, and its state is that of one with nothing to do, which has ended
 abbrev pub refusedOf : ℕ → Listing
-refusedOf number = record { said = Refused number; run = record { awaited = Ended; at = nothing } }
+refusedOf number = record { said = NoJob number; run = record { awaited = Ended; at = nothing } }
 
 -- nothing more
 abbrev pub overOf : Run → Listing
 overOf run = record { said = Over; run = run }
 
--- ---- opening: what is due first, and what the array for A holds
+-- ---- opening: what is due first, and what the array for A holds. A run that begins has its matrix there; otherwise it stays
 
 abbrev pub dueAfter : After Turn → After Listing
 dueAfter g = after (dueOf (g .is)) (g .ws) (g .q)
 
-abbrev pub openedFrom : ReadOutcome → List Float → List Float → After Listing × List Float
-openedFrom (gives job, y0, a) ws q = (dueAfter (beginning (configurationOf job (take (job .n) y0)) ws q), a)
-openedFrom (refuses number, y0, a) ws q = (after (refusedOf number) ws q, a)
+-- a run's beginning, where its matrix was read to b
+abbrev pub begunWith : After Turn → List Float → List Float → After Listing × List Float
+begunWith g b a = (dueAfter g, if isQuestionOrNotice (g .is .answer) then b else a)
+
+abbrev pub openedFrom : ReadOutcome → List Float → List Float → List Float → After Listing × List Float
+openedFrom (gives job, y0, b) a ws q = begunWith (beginning (configurationOf job (take (job .n) y0)) ws q) b a
+openedFrom (refuses number, y0, b) a ws q = (after (refusedOf number) ws q, a)
 
 unfoldable pub opened : List ℕ → List Float → List Float → List Float → After Listing × List Float
-opened s a ws q = openedFrom (readOf s (replicate maxN +0) a) ws q
+opened s a ws q = openedFrom (reading s) a ws q
 
 -- ---- a page under way: the sheet, and the page's bytes
 
@@ -114,11 +116,11 @@ pagedOf (s, out) = (after (givenOf (s .is)) (s .ws) (s .q), out)
 -- the page on which a file's refusal is put, and its bytes
 abbrev pub refusedAt : ℕ → Run → Put → Page × List ℕ
 refusedAt number run (At length, out) = (pageOf (overOf run) length, out)
-refusedAt number run (Full, out) = (pageOf (record { said = Refused number; run = run }) 0, out)
+refusedAt number run (Full, out) = (pageOf (record { said = NoJob number; run = run }) 0, out)
 
 abbrev pub pageFrom : List Float → Said → Run → List Float → List Float → List ℕ → Paged
 pageFrom a (Told answer) run ws q out = pagedOf (filled enough a (sheetOf (after (record { answer = answer; run = run }) ws q) 0 Not, out))
-pageFrom a (Refused number) run ws q out =
+pageFrom a (NoJob number) run ws q out =
     let p = refusedAt number run (puts (refusalLine number) (At 0, out)) in (after (p .0) ws q, p .1)
 pageFrom a Over run ws q out = (after (pageOf (overOf run) 0) ws q, out)
 

@@ -1,5 +1,5 @@
 -- The whole output of the job program, from the bytes of the file to the bytes that it prints: a file that is no job prints its
--- refusal; any other prints the lines of its run, from the beginning to the end or to the beginning's refusal.
+-- refusal, and so does a job that the solver refuses to begin; any other prints the lines of its run, up to the end's.
 use mathlib.Core.List.{List, [], _++_}
 use Prim.Native.Nat.{ℕ, zero, suc, _*_}
 use lib.ListN.{take, replicate}
@@ -16,7 +16,7 @@ use Rattle.rules.specs.Calls.{Configuration, beginning, size}
 use Rattle.rules.specs.promises.RunEnds.{most}
 use Rattle.lines.specs.Lines.{startLine, stepLine, endLine, refusalLine}
 use Rattle.job.specs.Reading.{ReadOutcome, readOf, settingsOf}
-use Rattle.listing.specs.Types.{Answer, Derivative, Jacobian, Start, Step, End, NotTaken, Scalar, Evals, Steps, Turn, Job}
+use Rattle.listing.specs.Types.{Answer, Derivative, Jacobian, Start, Step, End, Refused, Scalar, Evals, Steps, Turn, Job}
 use Rattle.listing.specs.Replies.{replied}
 
 -- ---- a run's lines
@@ -28,15 +28,15 @@ answerLine (Jacobian x) y steps evals = []
 answerLine (Start x) y steps evals = startLine x y
 answerLine (Step old new start h) y steps evals = stepLine new y
 answerLine (End status h) y steps evals = endLine status h steps evals
-answerLine (NotTaken why) y steps evals = refusalLine (numberOf why)
+answerLine (Refused why) y steps evals = refusalLine (numberOf why)
 
 abbrev pub lineOf : After Turn → List ℕ
 lineOf g = let p = g .is .run .at in answerLine (g .is .answer) (take (size g) (g .q)) (p .steps) (p .evals)
 
 -- the lines from an answer on, of at most k answers: its own, then those that follow the reply to it
-unfoldable pub told : ℕ → List Float → After Turn → List ℕ
-told zero a g = []
-told (suc k) a g = lineOf g ++ (if isQuestionOrNotice (g .is .answer) then told k a (replied a g) else [])
+unfoldable pub linesFrom : ℕ → List Float → After Turn → List ℕ
+linesFrom zero a g = []
+linesFrom (suc k) a g = lineOf g ++ (if isQuestionOrNotice (g .is .answer) then linesFrom k a (replied a g) else [])
 
 -- ---- a file's
 
@@ -55,19 +55,24 @@ configurationOf job y0 =
     }
 
 -- the workspace and the question slice before the beginning: zeros, enough for any job
-abbrev pub noWork : List Float
-noWork = replicate (need maxN) +0
+abbrev pub blankWork : List Float
+blankWork = replicate (need maxN) +0
 
-abbrev pub noQuestion : List Float
-noQuestion = replicate (8 * maxN) +0
+abbrev pub blankQuestion : List Float
+blankQuestion = replicate (8 * maxN) +0
 
 -- no run has more than `most` questions and notices, and one answer ends it
 abbrev pub runLines : Configuration → List Float → List ℕ
-runLines c a = told (suc (most c)) a (beginning c noWork noQuestion)
+runLines c a = linesFrom (suc (most c)) a (beginning c blankWork blankQuestion)
 
-abbrev pub readLines : ReadOutcome → List ℕ
-readLines (gives job, y0, a) = runLines (configurationOf job (take (job .n) y0)) a
-readLines (refuses number, y0, a) = refusalLine number
+-- what is read of a file: y0 and A stand in the first places of arrays that held zeros
+abbrev pub reading : List ℕ → ReadOutcome
+reading s = readOf s (replicate maxN +0) (replicate (maxN * maxN) +0)
+
+-- the lines for what was read
+abbrev pub linesFor : ReadOutcome → List ℕ
+linesFor (gives job, y0, a) = runLines (configurationOf job (take (job .n) y0)) a
+linesFor (refuses number, y0, a) = refusalLine number
 
 unfoldable pub printed : List ℕ → List ℕ
-printed s = readLines (readOf s (replicate maxN +0) (replicate (maxN * maxN) +0))
+printed s = linesFor (reading s)

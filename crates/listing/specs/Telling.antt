@@ -1,21 +1,20 @@
--- A run as the job program has it: the row of answers that it prints, with no number of them, and the exchange with the solver that
+-- A run as the job program has it: the row of answers that it prints, with no bound on how many, and the exchange with the solver that
 -- the row is. The words in which promises/Whole.antt and promises/PagesJoin.antt speak.
 use mathlib.Core.Path.{_≡_}
 use mathlib.Core.Bool.{true, false}
 use mathlib.Core.List.{List, _∷_, _++_}
-use Prim.Native.Nat.{ℕ, _*_}
-use lib.ListN.{take}
+use Prim.Native.Nat.{ℕ}
 use lib.Ieee.{Float}
 use Rattle.lines.specs.Types.{Status}
 use Rattle.lines.specs.Lines.{endLine}
 use Rattle.rules.specs.Answers.{isQuestionOrNotice}
 use Rattle.rules.specs.State.{After}
-use Rattle.rules.specs.Calls.{Configuration, beginning, Call, goingOn, size}
+use Rattle.rules.specs.Calls.{Configuration, beginning, goingOn}
 use Rattle.rules.specs.History.{Exchange, begins, goes-on, is-refused}
 use Rattle.rules.specs.Known.{StillAsTold, leaves, LeftAlone}
 use Rattle.listing.specs.Types.{Answer, End, Run, Turn}
-use Rattle.listing.specs.Replies.{replyTo, valuesFor, replied}
-use Rattle.listing.specs.Printed.{lineOf, noWork, noQuestion}
+use Rattle.listing.specs.Replies.{replying, replied}
+use Rattle.listing.specs.Printed.{lineOf, blankWork, blankQuestion}
 
 -- ---- the row
 
@@ -26,13 +25,6 @@ pub data Tells (a : List Float) : After Turn → List ℕ → Type 0 where
 
 -- ---- the exchange that it is
 
--- our reply after g, as a call
-abbrev pub replying : List Float → After Turn → Call
-replying a g =
-    let n = size g in
-    let answer = g .is .answer in
-    record { reply = replyTo answer; values = valuesFor (take (n * n) a) (take n (g .q)) answer; ws = g .ws; q = g .q }
-
 -- the lines of an exchange's answers, in their order. A refused call has none
 abbrev pub linesOf : {c : Configuration} {run : Run} {h : List Answer} → Exchange c run h → List ℕ
 linesOf {c} (begins ws q e) = lineOf (beginning c ws q)
@@ -41,7 +33,7 @@ linesOf (is-refused x call e) = linesOf x
 
 -- it begins in zeros, every call of it is our reply, and none is refused
 abbrev pub Ours : {c : Configuration} {run : Run} {h : List Answer} → List Float → Exchange c run h → Type 0
-Ours a (begins ws q e) = (ws ≡ noWork) × (q ≡ noQuestion)
+Ours a (begins ws q e) = (ws ≡ blankWork) × (q ≡ blankQuestion)
 Ours a (goes-on x call e) = Ours a x × (call ≡ replying a (leaves x))
 Ours a (is-refused x call e) = ⊥
 

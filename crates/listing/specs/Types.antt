@@ -1,6 +1,6 @@
 -- The words of the solver, the reader and the page that the definitions of a listing use, under one name.
 pub use Rattle.rules.specs.declared.types.Answer.{Answer}
-pub use Rattle.rules.specs.declared.types.Answer.the-variants.{Derivative, Jacobian, Start, Step, End, Refused as NotTaken}
+pub use Rattle.rules.specs.declared.types.Answer.the-variants.{Derivative, Jacobian, Start, Step, End, Refused}
 pub use Rattle.rules.specs.declared.types.Refusal.the-variants.{Damaged}
 pub use Rattle.rules.specs.declared.types.Reply.{Reply}
 pub use Rattle.rules.specs.declared.types.Reply.the-variants.{Values, Continue}

@@ -6,7 +6,9 @@ ghost use Rattle.matrix.specs.Size.{maxN};
 ghost use Rattle.rules.specs.State.{after};
 ghost use Rattle.rules.specs.Calls.{beginning};
 ghost use Rattle.listing.specs.Printed.{configurationOf};
-ghost use Rattle.listing.specs.Pages.{dueOf, dueAfter, refusedOf, opened};
+ghost use Rattle.listing.specs.Pages.{dueOf, begunWith, refusedOf, opened};
+use crate::replies::copy;
+use crate::replies::waits;
 use bdf::begin;
 use bdf::settings::BDF;
 use bdf::types::Answer;
@@ -27,8 +29,8 @@ pub const QUESTION: usize = 8 * MAX_N;
 pub enum Said {
     // By the solver. A question has no line.
     Told(Answer),
-    // The file is refused by this number: nothing was begun.
-    Refused(u64),
+    // The file is no job: it is refused by this number, and nothing was begun.
+    NoJob(u64),
     // Every line was given.
     Over,
 }
@@ -39,7 +41,8 @@ pub struct Listing {
     pub run: Run,
 }
 
-// A goes to the first n² places of `a`; the workspace and the question slice are the solver's.
+// Reads a file and begins its run, with what `ws` and `q` hold. A goes to the first n² places of `a` where the run begins; where the
+// file is no job, or the solver refuses it, nothing lent changes.
 pub fn open(
     file: &[u8],
     a: &mut [f64; CELLS],
@@ -49,24 +52,39 @@ pub fn open(
     ensures { λ r. ⌜ (after r (now (ws .exit)) (now (q .exit)), now (a .exit)) ≡ opened (now (file .entry)) (now (a .entry)) (now (ws .entry)) (now (q .entry)) ⌝ }
 {
     let mut y0 = [0.0f64; MAX_N];
-    match job::read(file, &mut y0, a) {
-        Reading::Read(j) => begun(j, &y0, ws, q),
+    let mut cells = [0.0f64; CELLS];
+    match job::read(file, &mut y0, &mut cells) {
+        Reading::Read(j) => begun(j, &y0, &cells, a, ws, q),
         Reading::Refused(number) => refused(number),
     }
 }
 
-// y0 as a slice, whose length its type says.
-fn begun(j: Job, y0: &[f64; MAX_N], ws: &mut [f64; WORKSPACE], q: &mut [f64; QUESTION]) -> Listing
+// The arrays as slices; their types say how long they are.
+fn begun(
+    j: Job,
+    y0: &[f64; MAX_N],
+    cells: &[f64; CELLS],
+    a: &mut [f64; CELLS],
+    ws: &mut [f64; WORKSPACE],
+    q: &mut [f64; QUESTION],
+) -> Listing
     requires { ⌜ j .n ≤ maxN ⌝ }
-    ensures { λ r. ⌜ after r (now (ws .exit)) (now (q .exit)) ≡ dueAfter (beginning (configurationOf j (take (j .n) (now (y0 .entry)))) (now (ws .entry)) (now (q .entry))) ⌝ }
+    ensures { λ r. ⌜ (after r (now (ws .exit)) (now (q .exit)), now (a .exit)) ≡ begunWith (beginning (configurationOf j (take (j .n) (now (y0 .entry)))) (now (ws .entry)) (now (q .entry))) (now (cells .entry)) (now (a .entry)) ⌝ }
 {
-    fitted(j, y0, ws, q)
+    fitted(j, y0, cells, a, ws, q)
 }
 
-// Just the places of its components.
-fn fitted(j: Job, y0: &[f64], ws: &mut [f64], q: &mut [f64]) -> Listing
-    requires { ⌜ (j .n ≤ maxN) × (length (now y0) ≡ maxN) ⌝ }
-    ensures { λ r. ⌜ after r (now (ws .exit)) (now (q .exit)) ≡ dueAfter (beginning (configurationOf j (take (j .n) (now (y0 .entry)))) (now (ws .entry)) (now (q .entry))) ⌝ }
+// The beginning, with the first n places of y0; the cells are kept where it asks.
+fn fitted(
+    j: Job,
+    y0: &[f64],
+    cells: &[f64],
+    a: &mut [f64],
+    ws: &mut [f64],
+    q: &mut [f64],
+) -> Listing
+    requires { ⌜ (j .n ≤ maxN) × ((length (now y0) ≡ maxN) × (length (now cells) ≡ length (now a))) ⌝ }
+    ensures { λ r. ⌜ (after r (now (ws .exit)) (now (q .exit)), now (a .exit)) ≡ begunWith (beginning (configurationOf j (take (j .n) (now (y0 .entry)))) (now (ws .entry)) (now (q .entry))) (now (cells .entry)) (now (a .entry)) ⌝ }
 {
     let n = j.n;
     let turn = begin(
@@ -81,6 +99,11 @@ fn fitted(j: Job, y0: &[f64], ws: &mut [f64], q: &mut [f64]) -> Listing
         ws,
         q,
     );
+    let answer = turn.answer;
+    if !waits(answer) {
+        return due(turn);
+    }
+    copy(cells, a);
     due(turn)
 }
 
@@ -116,7 +139,7 @@ fn refused(number: u64) -> Listing
     );
     let run = turn.run;
     Listing {
-        said: Said::Refused(number),
+        said: Said::NoJob(number),
         run,
     }
 }

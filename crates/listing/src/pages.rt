@@ -23,7 +23,7 @@ use bdf::types::Turn;
 use job::CELLS;
 use text::Place;
 
-// A page: its text stands in its first `length` bytes.
+// A page that was given: its text stands in the first `length` bytes of what was lent for it.
 pub struct Page {
     pub listing: Listing,
     pub length: usize,
@@ -45,7 +45,8 @@ enum Stop {
 // More answers than any run has.
 const ENOUGH: u64 = u64::MAX;
 
-// The next page of a listing. Where its next line has no room the page stays empty, and the line is due on the one after it.
+// The next page of a listing, given A and both slices as the call before left them. Where there is no room for its first line the page
+// stays empty and the line is due on the one after it; 1,024 bytes have room for any line.
 pub fn next_page(
     l: Listing,
     a: &[f64; CELLS],
@@ -59,7 +60,7 @@ pub fn next_page(
     let run = l.run;
     match said {
         Said::Told(answer) => paged(Turn { answer, run }, a, ws, q, out),
-        Said::Refused(number) => refused(number, run, out),
+        Said::NoJob(number) => refused(number, run, out),
         Said::Over => page_of(over(run), 0),
     }
 }
@@ -86,13 +87,13 @@ fn refused(number: u64, run: Run, out: &mut [u8]) -> Page
     match lines::refusal_line(out, Place::At(0), number) {
         Place::At(length) => page_of(over(run), length),
         Place::Full => {
-            let said = Said::Refused(number);
+            let said = Said::NoJob(number);
             page_of(Listing { said, run }, 0)
         }
     }
 }
 
-// The arrays as slices, whose lengths their types say.
+// The arrays as slices; their types say how long they are.
 fn paged(
     turn: Turn,
     a: &[f64; CELLS],

@@ -1,4 +1,4 @@
-// What is replied to the solver: A y to a question for the derivative, A to one for the Jacobian, and on from a notice.
+// What is replied to the solver: A y to a question for the derivative, A to one for the Jacobian, Continue to a notice.
 ghost use mathlib.Core.Path.{_≡_};
 ghost use mathlib.Core.List.{_++_};
 ghost use Prim.Native.Nat.{_*_, _≤_};
@@ -51,7 +51,7 @@ fn reply_to(answer: Answer) -> Reply
     }
 }
 
-// The values of a reply go to the first places of `values`; how many they are. For more components than are served, none: a
+// Writes the values of a reply to the first places of `values`, and says how many they are. For more components than are served, none: a
 // forged state that says so is refused, whatever is replied.
 fn values_for(answer: Answer, n: usize, a: &[f64], q: &[f64], values: &mut [f64]) -> usize
     requires { ⌜ (length (now a) ≡ maxN * maxN) × ((length (now q) ≡ 8 * maxN) × (length (now values) ≡ maxN * maxN)) ⌝ }
@@ -82,7 +82,8 @@ fn values_for(answer: Answer, n: usize, a: &[f64], q: &[f64], values: &mut [f64]
     }
 }
 
-fn copy(from: &[f64], to: &mut [f64])
+// Over the first places of `to`.
+pub(crate) fn copy(from: &[f64], to: &mut [f64])
     requires { ⌜ length (now from) ≤ length (now to) ⌝ }
     ensures { λ _. ⌜ now (to .exit) ≡ now (from .entry) ++ drop (length (now (from .entry))) (now (to .entry)) ⌝ }
 {

@@ -9,7 +9,7 @@ use listing::QUESTION;
 use listing::Said;
 use listing::WORKSPACE;
 
-// One byte more than the longest job tells a file that is longer; no more of it is read.
+// One byte more than the longest job has shows that a file is too long; no more of it is read.
 const ENOUGH: usize = job::LONGEST + 1;
 
 fn main() {
@@ -25,7 +25,7 @@ fn main() {
 }
 
 // Every page of a listing. That its pages end, and that each has a line, is proved of the listing and not used here: the pages are
-// counted down from a number that none uses up, and one without a line would be taken for one that was not written.
+// counted down from a number that no job uses up, and one without a line would be taken for one that was not written.
 fn print(
     first: Listing,
     a: &[f64; CELLS],

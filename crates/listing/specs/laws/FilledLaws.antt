@@ -19,7 +19,7 @@ use Rattle.listing.specs.Printed.{lineOf}
 use Rattle.listing.specs.Pages.{UnderWay, sheetOf, turnOf, onward, answeredAt, answered, goesOn, filled, enough, refusedAt, pageFrom, nextPage}
 use Rattle.listing.specs.laws.PutLaws.{PutAt, put-at}
 use Rattle.listing.specs.declared.opening.Said.{Said}
-use Rattle.listing.specs.declared.opening.Said.the-variants.{Told, Refused, Over}
+use Rattle.listing.specs.declared.opening.Said.the-variants.{Told, NoJob, Over}
 use Rattle.listing.specs.declared.opening.Listing.{Listing}
 use Rattle.listing.specs.declared.pages.Sheet.{Sheet}
 use Rattle.listing.specs.declared.pages.Stop.the-variants.{Not, NoRoom}
@@ -68,7 +68,7 @@ refused-within number run out (Full, page) put = omega arith
 
 page-within : (a : List Float) (said : Said) (run : Run) (ws q : List Float) (out : List ℕ) → let p = pageFrom a said run ws q out in p .0 .is .length ≤ length (p .1)
 page-within a (Told answer) run ws q out = filled-within enough a (sheetOf (after (record { answer = answer; run = run }) ws q) 0 Not, out) (omega arith)
-page-within a (Refused number) run ws q out = refused-within number run out (puts (refusalLine number) (At 0, out)) (put-at _ _ _)
+page-within a (NoJob number) run ws q out = refused-within number run out (puts (refusalLine number) (At 0, out)) (put-at _ _ _)
 page-within a Over run ws q out = omega arith
 
 -- a page's text lies within its bytes

@@ -1,5 +1,5 @@
 -- The row of a run's answers, as far as the pages need to know it: how many answers it has at most, and that each has a line of at
--- most `longest` bytes. A run that began has at most `most` questions and notices, which its limits keep small.
+-- most `ample` bytes. A run that began has at most `most` questions and notices, which its limits keep small.
 use mathlib.Core.Path.{_≡_, refl, sym}
 use mathlib.Core.Bool.{Bool, true, false, true≢false}
 use mathlib.Core.List.{List, [], _∷_, _++_}
@@ -19,17 +19,17 @@ use Rattle.rules.specs.laws.GoOnLaws.{few-undamaged}
 use Rattle.rules.specs.promises.Demand3.{m}
 use Rattle.rules.specs.promises.NeverDamaged.{never-damaged}
 use Rattle.rules.specs.promises.RunEnds.{most, no-longer}
-use Rattle.listing.specs.Types.{Answer, Derivative, Jacobian, Start, Step, End, NotTaken, Run, Turn}
+use Rattle.listing.specs.Types.{Answer, Derivative, Jacobian, Start, Step, End, Refused, Run, Turn}
 use Rattle.listing.specs.Replies.{replied}
-use Rattle.listing.specs.Printed.{lineOf, noWork, noQuestion}
+use Rattle.listing.specs.Printed.{lineOf, blankWork, blankQuestion}
 use Rattle.listing.specs.Pages.{enough}
-use Rattle.listing.specs.laws.ShortLaws.{longest, line-short}
+use Rattle.listing.specs.laws.ShortLaws.{ample, line-short}
 use Rattle.listing.specs.laws.TellingLaws.{Come, come-on, come-to-begin}
 
--- from g on at most k answers come, and a page of `longest` bytes has room for the line of each; for the last one's it always has
+-- from g on at most k answers come, and a page of `ample` bytes has room for the line of each; for the last one's it always has
 pub data Fits (a : List Float) : ℕ → After Turn → Type 0 where
   fits-last : {k : ℕ} {g : After Turn} → isQuestionOrNotice (g .is .answer) ≡ false → Fits a (suc k) g
-  fits-more : {k : ℕ} {g : After Turn} → isQuestionOrNotice (g .is .answer) ≡ true → length (lineOf g) ≤ longest → Fits a k (replied a g) → Fits a (suc k) g
+  fits-more : {k : ℕ} {g : After Turn} → isQuestionOrNotice (g .is .answer) ≡ true → length (lineOf g) ≤ ample → Fits a k (replied a g) → Fits a (suc k) g
 
 -- a number of answers that one page can come through
 abbrev pub Fitting : List Float → After Turn → Type 0
@@ -66,7 +66,7 @@ no-refusal (Jacobian x) e = refl
 no-refusal (Start x) e = refl
 no-refusal (Step old new start h) e = refl
 no-refusal (End status h) e = refl
-no-refusal (NotTaken why) e = absurd (true≢false (sym e))
+no-refusal (Refused why) e = absurd (true≢false (sym e))
 
 -- a run that asks has limits that were accepted
 asking-bounded :
@@ -84,12 +84,12 @@ most-enough c b =
     omega (arith, b .patient)
 
 -- every beginning: it asks, or it ends or is refused at once
-pub beginning-fits : (c : Configuration) (a : List Float) → length a ≡ maxN * maxN → Fitting a (beginning c noWork noQuestion)
+pub beginning-fits : (c : Configuration) (a : List Float) → length a ≡ maxN * maxN → Fitting a (beginning c blankWork blankQuestion)
 beginning-fits c a wide = by-test _ refl
   where
-    by-test : (b : Bool) → isQuestionOrNotice (beginning c noWork noQuestion .is .answer) ≡ b → Fitting a (beginning c noWork noQuestion)
+    by-test : (b : Bool) → isQuestionOrNotice (beginning c blankWork blankQuestion .is .answer) ≡ b → Fitting a (beginning c blankWork blankQuestion)
     by-test true e =
-        let g = beginning c noWork noQuestion in
+        let g = beginning c blankWork blankQuestion in
         let come = come-to-begin {c = c} a wide (no-refusal (g .is .answer) e) in
         let few = most-enough c (asking-bounded (exchange-kept (come .exchange)) e) in
         (suc (most c), few, come-fits a wide (most c) g [] [] come (omega arith))

@@ -28,7 +28,7 @@ use Rattle.rules.specs.laws.CallLaws.{beginning-cases, going-on-cases}
 use Rattle.job.specs.Right.{rowSum, rightTurn, rightOf}
 use Rattle.job.specs.Packed.{headLength, headBits, headOf, doublesOf}
 use Rattle.job.specs.Reading.{ReadOutcome, acceptedOf, acceptedRead, headRead, readOf}
-use Rattle.listing.specs.Types.{Answer, Derivative, Jacobian, Start, Step, End, NotTaken, Run, Turn}
+use Rattle.listing.specs.Types.{Answer, Derivative, Jacobian, Start, Step, End, Refused, Run, Turn}
 use Rattle.listing.specs.Replies.{timesOf}
 
 -- ---- the workspace and the question slice
@@ -44,7 +44,7 @@ few-written n (Jacobian x) = omega arith
 few-written n (Start x) = omega arith
 few-written n (Step old new start h) = omega arith
 few-written n (End status h) = omega arith
-few-written n (NotTaken why) = omega arith
+few-written n (Refused why) = omega arith
 
 -- past the checks: the needed places of the workspace and the first of the slice are put anew, by as many
 stage-keeps :

@@ -21,7 +21,7 @@ use Rattle.matrix.specs.Size.{maxN}
 use Rattle.rules.specs.State.{After, after}
 use Rattle.rules.specs.GoOn.{damaged, goChecked, goOn}
 use Rattle.job.specs.Right.{rowSum, rightTurn, rightOf, sizedOf, rightSideOf}
-use Rattle.listing.specs.Types.{Reply, NotTaken, Damaged, Run, Turn}
+use Rattle.listing.specs.Types.{Reply, Refused, Damaged, Run, Turn}
 use Rattle.listing.specs.Replies.{timesOf}
 
 -- ---- A y
@@ -64,6 +64,6 @@ module _ (a y dy : List Float) (same : length dy ≡ length y) where
 
 pub too-many-refused :
     (run : Run) (r : Reply) (values ws q : List Float) → maxN < run .at .n →
-    goOn run r values ws q ≡ after (record { answer = NotTaken Damaged; run = run }) ws q
+    goOn run r values ws q ≡ after (record { answer = Refused Damaged; run = run }) ws q
 unfolding goOn goChecked damaged if_then_else_
 too-many-refused run r values ws q many = rw (lt-ltb maxN (run .at .n) many)

@@ -15,16 +15,16 @@ use Rattle.rules.specs.Refusals.{numberOf}
 use Rattle.rules.specs.Answers.{isQuestionOrNotice}
 use Rattle.rules.specs.State.{After}
 use Rattle.rules.specs.Calls.{size}
-use Rattle.listing.specs.Types.{Answer, Derivative, Jacobian, Start, Step, End, NotTaken, Steps, Evals, Turn}
+use Rattle.listing.specs.Types.{Answer, Derivative, Jacobian, Start, Step, End, Refused, Steps, Evals, Turn}
 use Rattle.listing.specs.Printed.{answerLine, lineOf}
 
--- bytes that are room for any line
-abbrev pub longest : ℕ
-longest = 1024
+-- bytes that are room for any line: the longest has 563
+abbrev pub ample : ℕ
+ample = 1024
 
--- a line that a page of `longest` bytes has room for, and that is not empty
+-- a line that a page of `ample` bytes has room for, and that is not empty
 abbrev pub Short : List ℕ → Type 0
-Short t = (1 ≤ length t) × (length t ≤ longest)
+Short t = (1 ≤ length t) × (length t ≤ ample)
 
 pub refusal-short : (number : ℕ) → Short (refusalLine number)
 refusal-short number =
@@ -49,7 +49,7 @@ last-answer-short (End status h) y steps evals e =
     let jac = places-at-most-20 (evals .jac) in
     let lu = places-at-most-20 (evals .lu) in
     (omega arith, omega arith)
-last-answer-short (NotTaken why) y steps evals e = refusal-short (numberOf why)
+last-answer-short (Refused why) y steps evals e = refusal-short (numberOf why)
 
 pub last-line-short : (g : After Turn) → isQuestionOrNotice (g .is .answer) ≡ false → Short (lineOf g)
 last-line-short g e = last-answer-short (g .is .answer) (take (size g) (g .q)) (g .is .run .at .steps) (g .is .run .at .evals) e
@@ -57,14 +57,14 @@ last-line-short g e = last-answer-short (g .is .answer) (take (size g) (g .q)) (
 -- the line of any other tells at most 32 components
 answer-short :
     (answer : Answer) (y : List Float) (steps : Steps) (evals : Evals) → isQuestionOrNotice answer ≡ true → length y ≤ maxN →
-    length (answerLine answer y steps evals) ≤ longest
+    length (answerLine answer y steps evals) ≤ ample
 answer-short (Derivative x) y steps evals e few = omega arith
 answer-short (Jacobian x) y steps evals e few = omega arith
 answer-short (Start x) y steps evals e few = omega (arith, length-state 73 x y)
 answer-short (Step old new start h) y steps evals e few = omega (arith, length-state 83 new y)
 answer-short (End status h) y steps evals e few = absurd (true≢false (sym e))
-answer-short (NotTaken why) y steps evals e few = absurd (true≢false (sym e))
+answer-short (Refused why) y steps evals e few = absurd (true≢false (sym e))
 
-pub line-short : (g : After Turn) → isQuestionOrNotice (g .is .answer) ≡ true → size g ≤ maxN → length (lineOf g) ≤ longest
+pub line-short : (g : After Turn) → isQuestionOrNotice (g .is .answer) ≡ true → size g ≤ maxN → length (lineOf g) ≤ ample
 line-short g e few =
     answer-short (g .is .answer) (take (size g) (g .q)) (g .is .run .at .steps) (g .is .run .at .evals) e (omega (arith, length-take (size g) (g .q)))

@@ -1,4 +1,4 @@
--- The definition's number of answers, `told`, is enough for a run that began. Every reply of ours is in kind, so each is taken, and no
+-- The definition's number of answers, `linesFrom`, is enough for a run that began. Every reply of ours is in kind, so each is taken, and no
 -- exchange has more than `most` questions and notices: the row comes to the end within it.
 use mathlib.Core.Path.{_≡_, refl, sym, _∙_, ap}
 use mathlib.Core.Bool.{true, false, true≢false}
@@ -25,16 +25,16 @@ use Rattle.rules.specs.laws.GoOnLaws.{few-undamaged}
 use Rattle.rules.specs.laws.HistoryLaws.{last-taken}
 use Rattle.rules.specs.promises.NeverDamaged.{never-damaged, RepliesTo, in-kind-is-taken}
 use Rattle.rules.specs.promises.RunEnds.{most, no-longer}
-use Rattle.listing.specs.Types.{Answer, Derivative, Jacobian, Start, Step, End, NotTaken, Run, Turn}
-use Rattle.listing.specs.Replies.{replyTo, valuesFor, replied}
-use Rattle.listing.specs.Printed.{lineOf, told, noWork, noQuestion, runLines}
-use Rattle.listing.specs.Telling.{Tells, last, more, replying, linesOf, Ours, Ran}
+use Rattle.listing.specs.Types.{Answer, Derivative, Jacobian, Start, Step, End, Refused, Run, Turn}
+use Rattle.listing.specs.Replies.{replyTo, valuesFor, replying, replied}
+use Rattle.listing.specs.Printed.{lineOf, linesFrom, blankWork, blankQuestion, runLines}
+use Rattle.listing.specs.Telling.{Tells, last, more, linesOf, Ours, Ran}
 use Rattle.listing.specs.laws.LengthLaws.{beginning-keeps-lengths, call-keeps-lengths, times-long}
 
--- where the first answer is the last, `told` is its line
-pub last-told : (a : List Float) (k : ℕ) (g : After Turn) → isQuestionOrNotice (g .is .answer) ≡ false → told (suc k) a g ≡ lineOf g
-unfolding told
-last-told a k g e = rw (when-false (told k a (replied a g)) [] e) (append-nil (lineOf g))
+-- where the first answer is the last, `linesFrom` is its line
+pub only-line : (a : List Float) (k : ℕ) (g : After Turn) → isQuestionOrNotice (g .is .answer) ≡ false → linesFrom (suc k) a g ≡ lineOf g
+unfolding linesFrom
+only-line a k g e = rw (when-false (linesFrom k a (replied a g)) [] e) (append-nil (lineOf g))
 
 -- ---- our replies
 
@@ -45,7 +45,7 @@ unmodified (Jacobian x) = refl
 unmodified (Start x) = refl
 unmodified (Step old new start h) = refl
 unmodified (End status h) = refl
-unmodified (NotTaken why) = refl
+unmodified (Refused why) = refl
 
 module _ (a : List Float) (wide : length a ≡ maxN * maxN) where
   -- each brings what is asked for
@@ -63,7 +63,7 @@ module _ (a : List Float) (wide : length a ≡ maxN * maxN) where
   in-kind (Start x) run ws q few asks e = record { count = 0; kind = refl; enough = omega arith }
   in-kind (Step old new start h) run ws q few asks e = record { count = 0; kind = refl; enough = omega arith }
   in-kind (End status h) run ws q few asks e = absurd (true≢false (sym e))
-  in-kind (NotTaken why) run ws q few asks e = absurd (true≢false (sym e))
+  in-kind (Refused why) run ws q few asks e = absurd (true≢false (sym e))
 
 -- ---- from answer to answer
 
@@ -129,7 +129,7 @@ module _ {c : Configuration} (a : List Float) (wide : length a ≡ maxN * maxN) 
         front = [];
         whole = append-nil _;
       }
-  come-to-end (NotTaken why) run ws q before past come e = absurd (true≢false (last-taken (come .exchange)))
+  come-to-end (Refused why) run ws q before past come e = absurd (true≢false (last-taken (come .exchange)))
 
   -- what runs from the next answer on runs from this one on
   one-before :
@@ -154,8 +154,8 @@ module _ {c : Configuration} (a : List Float) (wide : length a ≡ maxN * maxN) 
   -- k answers more are enough, where they are as many as an exchange can still have
   come-through :
       (k : ℕ) (g : After Turn) (before : List ℕ) (past : List Answer) → Come c a g before past → most c ≤ questionsAndNotices past + k →
-      Ran c a g before (told (suc k) a g)
-  unfolding told
+      Ran c a g before (linesFrom (suc k) a g)
+  unfolding linesFrom
   come-through zero g before past come enough =
       either (λ (t : List ℕ). Ran c a g before (lineOf g ++ t)) (isQuestionOrNotice (g .is .answer))
       (λ e. let counted = rw e at (no-longer (come .exchange)) in absurd (omega arith))
@@ -167,11 +167,11 @@ module _ {c : Configuration} (a : List Float) (wide : length a ≡ maxN * maxN) 
       (λ e. come-to-end (g .is .answer) (g .is .run) (g .ws) (g .q) before past come e)
 
   -- an exchange of a configuration that is accepted has come as far as its beginning
-  pub come-to-begin : isRefused (begun c noWork noQuestion .answer) ≡ false → Come c a (beginning c noWork noQuestion) [] []
+  pub come-to-begin : isRefused (begun c blankWork blankQuestion .answer) ≡ false → Come c a (beginning c blankWork blankQuestion) [] []
   come-to-begin taken =
-      let kept = beginning-keeps-lengths c noWork noQuestion in
+      let kept = beginning-keeps-lengths c blankWork blankQuestion in
       record {
-        exchange = begins noWork noQuestion taken;
+        exchange = begins blankWork blankQuestion taken;
         left = refl;
         ours = (refl, refl);
         still = tt;
@@ -182,5 +182,5 @@ module _ {c : Configuration} (a : List Float) (wide : length a ≡ maxN * maxN) 
       }
 
   -- so the whole run of it
-  pub begun-runs : isRefused (begun c noWork noQuestion .answer) ≡ false → Ran c a (beginning c noWork noQuestion) [] (runLines c a)
-  begun-runs taken = come-through (most c) (beginning c noWork noQuestion) [] [] (come-to-begin taken) (omega arith)
+  pub begun-runs : isRefused (begun c blankWork blankQuestion .answer) ≡ false → Ran c a (beginning c blankWork blankQuestion) [] (runLines c a)
+  begun-runs taken = come-through (most c) (beginning c blankWork blankQuestion) [] [] (come-to-begin taken) (omega arith)

@@ -22,10 +22,10 @@ use Rattle.listing.specs.Replies.{replied}
 use Rattle.listing.specs.Printed.{lineOf}
 use Rattle.listing.specs.Pages.{UnderWay, sheetOf, turnOf, onward, answeredAt, answered, goesOn, filled, enough, Paged, stoppedOf, pagedOf, refusedAt, pageFrom, nextPage}
 use Rattle.listing.specs.laws.FilledLaws.{filled-stops, filled-more}
-use Rattle.listing.specs.laws.ShortLaws.{longest, refusal-short, last-line-short}
+use Rattle.listing.specs.laws.ShortLaws.{ample, refusal-short, last-line-short}
 use Rattle.listing.specs.laws.FitsLaws.{Fits, fits-last, fits-more, Fitting}
 use Rattle.listing.specs.declared.opening.Said.{Said}
-use Rattle.listing.specs.declared.opening.Said.the-variants.{Told, Refused, Over}
+use Rattle.listing.specs.declared.opening.Said.the-variants.{Told, NoJob, Over}
 use Rattle.listing.specs.declared.opening.Listing.{Listing}
 use Rattle.listing.specs.declared.pages.Stop.{Stop}
 use Rattle.listing.specs.declared.pages.Stop.the-variants.{Not, NoRoom, AtEnd}
@@ -48,7 +48,7 @@ put-moves t at out =
 
 abbrev pub FitsBy : List Float → Said → Run → List Float → List Float → Type 0
 FitsBy a (Told answer) run ws q = Fitting a (after (record { answer = answer; run = run }) ws q)
-FitsBy a (Refused number) run ws q = Unit
+FitsBy a (NoJob number) run ws q = Unit
 FitsBy a Over run ws q = Unit
 
 abbrev pub ListingFits : List Float → After Listing → Type 0
@@ -74,7 +74,7 @@ module _ (a : List Float) where
   -- the last answer
   last-gives :
       (j : ℕ) (g : After Turn) (at : ℕ) (out : List ℕ) (p : Put) → Fitting a g → isQuestionOrNotice (g .is .answer) ≡ false →
-      longest ≤ length out → Moves (lineOf g) at out p → Gives (filled j a (answeredAt a g at p))
+      ample ≤ length out → Moves (lineOf g) at out p → Gives (filled j a (answeredAt a g at p))
   unfolding onward
   last-gives j g at out (At next, page) fits e room moved =
       let short = last-line-short g e in
@@ -87,8 +87,8 @@ module _ (a : List Float) where
   -- any other: `next-gives` says what comes of the answer to it
   more-gives :
       (j : ℕ) (g : After Turn) (at : ℕ) (out : List ℕ) (p : Put) → Fitting a g → isQuestionOrNotice (g .is .answer) ≡ true →
-      length (lineOf g) ≤ longest → longest ≤ length out → Moves (lineOf g) at out p →
-      ((next : ℕ) (page : List ℕ) → longest ≤ length page → Gives (filled j a (sheetOf (replied a g) next Not, page))) →
+      length (lineOf g) ≤ ample → ample ≤ length out → Moves (lineOf g) at out p →
+      ((next : ℕ) (page : List ℕ) → ample ≤ length page → Gives (filled j a (sheetOf (replied a g) next Not, page))) →
       Gives (filled j a (answeredAt a g at p))
   unfolding onward
   more-gives j g at out (At next, page) fits e short room moved next-gives =
@@ -98,7 +98,7 @@ module _ (a : List Float) where
 
   -- wherever the page has come to
   filled-gives :
-      {k : ℕ} {g : After Turn} → Fits a k g → (j at : ℕ) (out : List ℕ) → k ≤ j → j ≤ enough → longest ≤ length out →
+      {k : ℕ} {g : After Turn} → Fits a k g → (j at : ℕ) (out : List ℕ) → k ≤ j → j ≤ enough → ample ≤ length out →
       Gives (filled j a (sheetOf g at Not, out))
   unfolding answered
   filled-gives {k} {g} (fits-last e) j at out few most room =
@@ -124,21 +124,21 @@ module _ (a : List Float) where
   paged-yields (s, out) g = record { some = g .some; fits = follows-fits (s .is .stop) (turnOf s) (g .follows) }
 
   refused-yields :
-      (number : ℕ) (run : Run) (ws q : List Float) (out : List ℕ) (p : Put) → longest ≤ length out → Moves (refusalLine number) 0 out p →
+      (number : ℕ) (run : Run) (ws q : List Float) (out : List ℕ) (p : Put) → ample ≤ length out → Moves (refusalLine number) 0 out p →
       Yields (after (refusedAt number run p .0) ws q, refusedAt number run p .1)
   refused-yields number run ws q out (At next, page) room moved =
       let short = refusal-short number in record { some = omega arith; fits = tt }
   refused-yields number run ws q out (Full, page) room moved = let short = refusal-short number in absurd (omega arith)
 
   page-yields :
-      (said : Said) (run : Run) (ws q : List Float) (out : List ℕ) → longest ≤ length out → FitsBy a said run ws q →
+      (said : Said) (run : Run) (ws q : List Float) (out : List ℕ) → ample ≤ length out → FitsBy a said run ws q →
       (said ≡ Over) ⊎ Yields (pageFrom a said run ws q out)
   page-yields (Told answer) run ws q out room f = inr (paged-yields _ (filled-gives (f .2) enough 0 out (f .1) (omega arith) room))
-  page-yields (Refused number) run ws q out room f =
+  page-yields (NoJob number) run ws q out room f =
       inr (refused-yields number run ws q out (puts (refusalLine number) (At 0, out)) room (put-moves _ _ _))
   page-yields Over run ws q out room f = inl refl
 
   -- a listing is over, or its next page gives at least one byte
-  pub next-page-yields : (l : After Listing) (out : List ℕ) → longest ≤ length out → ListingFits a l → (l .is .said ≡ Over) ⊎ Yields (nextPage a l out)
+  pub next-page-yields : (l : After Listing) (out : List ℕ) → ample ≤ length out → ListingFits a l → (l .is .said ≡ Over) ⊎ Yields (nextPage a l out)
   unfolding nextPage
   next-page-yields l out room f = page-yields (l .is .said) (l .is .run) (l .ws) (l .q) out room f

@@ -1,12 +1,12 @@
 -- The pages of a listing, one after another, are the whole output: whatever bytes are lent for each, what they have given so far is
--- the beginning of `printed`, and once the listing is over it is all of it.
+-- the beginning of `printed`, and once the listing is over it is all of it. The file is opened with a workspace and a question slice of
+-- zeros, as the job program does, and each page takes over the listing, A and both slices as the one before left them.
 use mathlib.Core.Path.{_≡_, refl, sym, ap, _∙_, subst}
 use mathlib.Core.Bool.{true, false, false≢true}
 use mathlib.Core.List.{List, [], _++_, append-assoc, append-nil}
 use Prim.Native.Nat.{ℕ, zero, suc, _*_}
-use lib.ListN.{length, take, replicate}
+use lib.ListN.{length, take}
 use lib.Ieee.{Float}
-use Rattle.loops.specs.Arithmetic.{+0}
 use Rattle.loops.specs.Choice.{if_then_else_}
 use Rattle.loops.specs.Refusal.{Outcome, gives, refuses}
 use Rattle.matrix.specs.Size.{maxN}
@@ -16,15 +16,17 @@ use Rattle.text.specs.Page.{Page as Put, puts}
 use Rattle.lines.specs.Lines.{refusalLine}
 use Rattle.rules.specs.Answers.{isQuestionOrNotice}
 use Rattle.rules.specs.State.{After, after}
+use Rattle.rules.specs.promises.RunEnds.{most}
 use Rattle.listing.specs.Types.{Run, Turn, Job}
 use Rattle.listing.specs.Replies.{replied}
-use Rattle.listing.specs.Printed.{lineOf, noWork, noQuestion, readLines, printed}
+use Rattle.listing.specs.Printed.{lineOf, linesFrom, configurationOf, blankWork, blankQuestion, reading, linesFor, printed}
 use Rattle.listing.specs.Telling.{Tells, last, more}
-use Rattle.listing.specs.Pages.{UnderWay, sheetOf, turnOf, onward, answeredAt, answered, goesOn, filled, enough, Paged, stoppedOf, pagedOf, refusedAt, pageFrom, nextPage, openedFrom, opened}
-use Rattle.listing.specs.promises.Whole.{reading, reading-sized, read-tells}
+use Rattle.listing.specs.Pages.{UnderWay, sheetOf, turnOf, onward, answeredAt, answered, goesOn, filled, enough, Paged, stoppedOf, pagedOf, refusedAt, pageFrom, nextPage, begunWith, openedFrom, opened}
+use Rattle.listing.specs.promises.Whole.{beginningOf, reading-sized, read-tells}
+use Rattle.listing.specs.laws.TellingLaws.{only-line}
 use Rattle.listing.specs.laws.PutLaws.{PutAt, put-at}
 use Rattle.listing.specs.declared.opening.Said.{Said}
-use Rattle.listing.specs.declared.opening.Said.the-variants.{Told, Refused, Over}
+use Rattle.listing.specs.declared.opening.Said.the-variants.{Told, NoJob, Over}
 use Rattle.listing.specs.declared.opening.Listing.{Listing}
 use Rattle.listing.specs.declared.pages.Stop.{Stop}
 use Rattle.listing.specs.declared.pages.Stop.the-variants.{Not, NoRoom, AtEnd}
@@ -34,7 +36,7 @@ use Rattle.listing.specs.declared.pages.Stop.the-variants.{Not, NoRoom, 
 -- what a listing has still to give
 abbrev pub RemainsBy : List Float → Said → Run → List Float → List Float → List ℕ → Type 0
 RemainsBy a (Told answer) run ws q t = Tells a (after (record { answer = answer; run = run }) ws q) t
-RemainsBy a (Refused number) run ws q t = t ≡ refusalLine number
+RemainsBy a (NoJob number) run ws q t = t ≡ refusalLine number
 RemainsBy a Over run ws q t = t ≡ []
 
 abbrev pub Remains : List Float → After Listing → List ℕ → Type 0
@@ -126,8 +128,8 @@ module _ (a : List Float) where
       Gave a t (pageFrom a said run ws q out)
   page-gave (Told answer) run ws q out t r =
       paged-gave _ (filled-has enough _ (record { rest = t; whole = refl; remains = r }))
-  page-gave (Refused number) run ws q out t r =
-      subst (λ (t : List ℕ). Gave a t (pageFrom a (Refused number) run ws q out)) (sym r)
+  page-gave (NoJob number) run ws q out t r =
+      subst (λ (t : List ℕ). Gave a t (pageFrom a (NoJob number) run ws q out)) (sym r)
       (refused-gave number run ws q out (puts (refusalLine number) (At 0, out)) (put-at _ _ _))
   page-gave Over run ws q out t r = record { rest = t; whole = refl; remains = r }
 
@@ -162,23 +164,30 @@ pages-gave a l t r (one-more {t = u} {m = m} ps out) =
 
 -- ---- of a file
 
--- a file opened in zeros: the listing, and A
-abbrev pub openedIn0 : List ℕ → After Listing × List Float
-openedIn0 s = opened s (replicate (maxN * maxN) +0) noWork noQuestion
+-- a file opened with a workspace and a question slice of zeros, and whatever stood in the array for A: the listing, and A
+abbrev pub openedIn0 : List ℕ → List Float → After Listing × List Float
+openedIn0 s a = opened s a blankWork blankQuestion
+
+-- what a run that was begun has to give, whichever matrix stands beside it where nothing is asked
+begun-remains : (g : After Turn) (b a : List Float) (k : ℕ) → Tells b g (linesFrom (suc k) b g) → let l = begunWith g b a in Remains (l .1) (l .0) (linesFrom (suc k) b g)
+begun-remains g b a k t =
+    either (λ (m : List Float). Tells m g (linesFrom (suc k) b g)) (isQuestionOrNotice (g .is .answer)) (λ _. t)
+    (λ e. let only = only-line b k g e in rw only (last e))
 
 -- what is opened has just the whole output to give
 opened-remains :
-    (o : Outcome Job) (y0 a : List Float) → length a ≡ maxN * maxN → let l = openedFrom (o, y0, a) noWork noQuestion in
-    Remains (l .1) (l .0) (readLines (o, y0, a))
-opened-remains (gives j) y0 a wide = read-tells j y0 a wide
-opened-remains (refuses number) y0 a wide = refl
+    (o : Outcome Job) (y0 b a : List Float) → length b ≡ maxN * maxN → let l = openedFrom (o, y0, b) a blankWork blankQuestion in
+    Remains (l .1) (l .0) (linesFor (o, y0, b))
+opened-remains (gives j) y0 b a wide =
+    begun-remains (beginningOf (gives j, y0, b) j) b a (most (configurationOf j (take (j .n) y0))) (read-tells j y0 b wide)
+opened-remains (refuses number) y0 b a wide = refl
 
-module _ (s : List ℕ) {t : List ℕ} {m : After Listing} (ps : Pages (openedIn0 s .1) (openedIn0 s .0) t m) where
-  gave : Given (openedIn0 s .1) (printed s) t m
+module _ (s : List ℕ) (a : List Float) {t : List ℕ} {m : After Listing} (ps : Pages (openedIn0 s a .1) (openedIn0 s a .0) t m) where
+  gave : Given (openedIn0 s a .1) (printed s) t m
   unfolding opened printed
   gave =
       let r = reading s in
-      pages-gave (openedIn0 s .1) (openedIn0 s .0) (printed s) (opened-remains (r .0) (r .1) (r .2) (reading-sized s .1)) ps
+      pages-gave (openedIn0 s a .1) (openedIn0 s a .0) (printed s) (opened-remains (r .0) (r .1) (r .2) a (reading-sized s .1)) ps
 
   -- at any time the pages are the beginning of the whole output
   pub pages-begin-it : (rest : List ℕ) × (printed s ≡ t ++ rest)
@@ -188,5 +197,5 @@ module _ (s : List ℕ) {t : List ℕ} {m : After Listing} (ps : Pages (openedIn
   pub pages-are-printed : m .is .said ≡ Over → printed s ≡ t
   pages-are-printed over =
       let rest = gave .rest in
-      let none : rest ≡ [] = subst (λ (said : Said). RemainsBy (openedIn0 s .1) said (m .is .run) (m .ws) (m .q) rest) over (gave .remains) in
+      let none : rest ≡ [] = subst (λ (said : Said). RemainsBy (openedIn0 s a .1) said (m .is .run) (m .ws) (m .q) rest) over (gave .remains) in
       gave .whole ∙ rw none (append-nil t)

@@ -3,8 +3,8 @@
 -- no-job      The file is no job: the line of the reader's refusal.
 -- not-begun   The solver refuses the job's configuration: the line of that refusal.
 -- ran         The lines of an exchange with the solver, one for each notice and one for the end, which is its last answer. Each of its
---             calls replies with the job's own right side, A y or A, and hands back both slices as they were left; none is refused. So
---             what is promised of every exchange holds of it, as what its end means.
+--             calls replies with the job's own A y or A, or Continue to a notice, and hands back both slices as they were left; none is
+--             refused. So what is promised of every exchange holds of it, such as what its end means.
 --
 -- It holds since every reply of the job program is in kind, so that it is taken, and no exchange has more questions and notices than
 -- the definition allows for (`TellingLaws`).
@@ -31,31 +31,27 @@ use Rattle.rules.specs.History.{Exchange}
 use Rattle.rules.specs.Known.{Arrived, StillAsTold, lastToldX}
 use Rattle.rules.specs.promises.EndMeans.{success-was-told}
 use Rattle.rules.specs.promises.RunEnds.{most}
-use Rattle.job.specs.Reading.{ReadOutcome, readOf}
+use Rattle.job.specs.Reading.{ReadOutcome}
 use Rattle.job.specs.laws.ReadingLaws.{read-serves}
-use Rattle.listing.specs.Types.{Answer, Derivative, Jacobian, Start, Step, End, NotTaken, Run, Turn, Job}
-use Rattle.listing.specs.Printed.{told, configurationOf, noWork, noQuestion, runLines, readLines, printed}
+use Rattle.listing.specs.Types.{Answer, Derivative, Jacobian, Start, Step, End, Refused, Run, Turn, Job}
+use Rattle.listing.specs.Printed.{linesFrom, configurationOf, blankWork, blankQuestion, runLines, reading, linesFor, printed}
 use Rattle.listing.specs.Telling.{Tells, last, Ran}
 use Rattle.listing.specs.laws.LengthLaws.{Sized, read-sized}
-use Rattle.listing.specs.laws.TellingLaws.{last-told, begun-runs}
+use Rattle.listing.specs.laws.TellingLaws.{only-line, begun-runs}
 
 -- ---- the statement
-
--- what is read of a file
-abbrev pub reading : List ℕ → ReadOutcome
-reading s = readOf s (replicate maxN +0) (replicate (maxN * maxN) +0)
 
 -- the configuration of the job j that was read, and its beginning
 abbrev pub configured : ReadOutcome → Job → Configuration
 configured r j = configurationOf j (take (j .n) (r .1))
 
 abbrev pub beginningOf : ReadOutcome → Job → After Turn
-beginningOf r j = beginning (configured r j) noWork noQuestion
+beginningOf r j = beginning (configured r j) blankWork blankQuestion
 
 -- t is the whole output for what was read
 pub data Whole (r : ReadOutcome) (t : List ℕ) : Type 0 where
   no-job : (number : ℕ) → r .0 ≡ refuses number → t ≡ refusalLine number → Whole r t
-  not-begun : (j : Job) (why : Refusal) → r .0 ≡ gives j → beginningOf r j .is .answer ≡ NotTaken why → t ≡ refusalLine (numberOf why) → Whole r t
+  not-begun : (j : Job) (why : Refusal) → r .0 ≡ gives j → beginningOf r j .is .answer ≡ Refused why → t ≡ refusalLine (numberOf why) → Whole r t
   ran : (j : Job) → r .0 ≡ gives j → Ran (configured r j) (r .2) (beginningOf r j) [] t → Whole r t
 
 -- ---- a beginning that is refused
@@ -63,52 +59,52 @@ pub data Whole (r : ReadOutcome) (t : List ℕ) : Type 0 where
 -- the answer is a refusal, and its line is all
 record Declined (a : List Float) (g : After Turn) (t : List ℕ) : Type 0 where
   why : Refusal
-  says : g .is .answer ≡ NotTaken why
+  says : g .is .answer ≡ Refused why
   line : t ≡ refusalLine (numberOf why)
   tells : Tells a g t
 
 declined :
     (a : List Float) (k : ℕ) (answer : Answer) (run : Run) (ws q : List Float) → isRefused answer ≡ true →
-    let g : After Turn = after (record { answer = answer; run = run }) ws q in Declined a g (told (suc k) a g)
+    let g : After Turn = after (record { answer = answer; run = run }) ws q in Declined a g (linesFrom (suc k) a g)
 declined a k (Derivative x) run ws q e = absurd (false≢true e)
 declined a k (Jacobian x) run ws q e = absurd (false≢true e)
 declined a k (Start x) run ws q e = absurd (false≢true e)
 declined a k (Step old new start h) run ws q e = absurd (false≢true e)
 declined a k (End status h) run ws q e = absurd (false≢true e)
-declined a k (NotTaken why) run ws q e =
-    let g : After Turn = after (record { answer = NotTaken why; run = run }) ws q in
-    let only = last-told a k g refl in
+declined a k (Refused why) run ws q e =
+    let g : After Turn = after (record { answer = Refused why; run = run }) ws q in
+    let only = only-line a k g refl in
     record { why = why; says = refl; line = only; tells = rw only (last refl) }
 
 -- ---- the proof
 
 -- the beginning is refused, or the run begins and ends
 abbrev Goes : Configuration → List Float → Type 0
-Goes c a = let g = beginning c noWork noQuestion in Declined a g (runLines c a) ⊎ Ran c a g [] (runLines c a)
+Goes c a = let g = beginning c blankWork blankQuestion in Declined a g (runLines c a) ⊎ Ran c a g [] (runLines c a)
 
 goes : (c : Configuration) (a : List Float) → length a ≡ maxN * maxN → Goes c a
 goes c a wide = by-test _ refl
   where
-    by-test : (b : Bool) → isRefused (beginning c noWork noQuestion .is .answer) ≡ b → Goes c a
-    by-test true e = let g = beginning c noWork noQuestion in inl (declined a (most c) (g .is .answer) (g .is .run) (g .ws) (g .q) e)
+    by-test : (b : Bool) → isRefused (beginning c blankWork blankQuestion .is .answer) ≡ b → Goes c a
+    by-test true e = let g = beginning c blankWork blankQuestion in inl (declined a (most c) (g .is .answer) (g .is .run) (g .ws) (g .q) e)
     by-test false e = inr (begun-runs a wide e)
 
 -- so for a job that was read
 module _ (j : Job) (y0 a : List Float) where
-  job-whole : Goes (configurationOf j (take (j .n) y0)) a → Whole (gives j, y0, a) (readLines (gives j, y0, a))
+  job-whole : Goes (configurationOf j (take (j .n) y0)) a → Whole (gives j, y0, a) (linesFor (gives j, y0, a))
   job-whole (inl d) = not-begun j (d .why) refl (d .says) (d .line)
   job-whole (inr r) = ran j refl r
 
-  job-tells : Goes (configurationOf j (take (j .n) y0)) a → Tells a (beginningOf (gives j, y0, a) j) (readLines (gives j, y0, a))
+  job-tells : Goes (configurationOf j (take (j .n) y0)) a → Tells a (beginningOf (gives j, y0, a) j) (linesFor (gives j, y0, a))
   job-tells (inl d) = d .tells
   job-tells (inr r) = r .tells
 
   -- the lines of a job that was read are the row of answers from its beginning on
-  pub read-tells : length a ≡ maxN * maxN → Tells a (beginningOf (gives j, y0, a) j) (readLines (gives j, y0, a))
+  pub read-tells : length a ≡ maxN * maxN → Tells a (beginningOf (gives j, y0, a) j) (linesFor (gives j, y0, a))
   read-tells wide = job-tells (goes _ a wide)
 
 -- and for anything that is read
-read-whole : (o : Outcome Job) (y0 a : List Float) → length a ≡ maxN * maxN → Whole (o, y0, a) (readLines (o, y0, a))
+read-whole : (o : Outcome Job) (y0 a : List Float) → length a ≡ maxN * maxN → Whole (o, y0, a) (linesFor (o, y0, a))
 read-whole (gives j) y0 a wide = job-whole j y0 a (goes _ a wide)
 read-whole (refuses number) y0 a wide = no-job number refl refl
 

@@ -1,6 +1,6 @@
 -- A state that a run returns is never damaged, one that has ended included. So a caller who replies in kind, with slices that
--- are long enough, meets no refusal before the end; and after it number 10, whatever is handed over. What is in kind, the answer
--- told says: the state waits for just what it asks for.
+-- are long enough, meets no refusal before the end; and after it number 10, whatever is handed over. What is in kind, the last
+-- answer says: the state waits for what it asks for.
 use mathlib.Core.Path.{_≡_, refl, sym, ap, _∙_, subst}
 use mathlib.Core.List.{List, _∷_}
 use mathlib.Core.Bool.{true, false}
