@@ -1,5 +1,5 @@
-// The job program: reads a packed job from standard input and prints its listing, page by page. Where a write fails it stops and
-// says so on standard error: a program of this language has no exit status.
+// The job program: reads a packed job from standard input and prints its listing, page by page. Where a read fails nothing is printed,
+// and where a write fails it stops; both are said on standard error, since a program of this language has no exit status.
 use job::CELLS;
 use libc::STDERR_FILENO;
 use libc::STDIN_FILENO;
@@ -18,10 +18,20 @@ fn main() {
     let mut ws = [0.0f64; WORKSPACE];
     let mut q = [0.0f64; QUESTION];
     let len = io::read_full(STDIN_FILENO, &mut file);
+    if len < ENOUGH && !is_at_end() {
+        io::write_all(STDERR_FILENO, b"run_job: standard input was not read\n");
+        return;
+    }
     let first = listing::open(&file[..len], &mut a, &mut ws, &mut q);
     if !print(first, &a, &mut ws, &mut q) {
         io::write_all(STDERR_FILENO, b"run_job: standard output was not written\n");
     }
+}
+
+// Whether there is nothing more to read: a read that fails stops as the end does, and only the end gives nothing without failing.
+fn is_at_end() -> bool {
+    let mut rest = [0u8; 1];
+    libc::read(STDIN_FILENO, &mut rest) == 0
 }
 
 // Every page of a listing. That its pages end, and that each has a line, is proved of the listing and not used here: the pages are
