@@ -1,6 +1,6 @@
 -- What the job program replies to the solver: A y to a question for the derivative, A to one for the Jacobian, Continue to a notice.
 use mathlib.Core.List.{List, []}
-use Prim.Native.Nat.{ℕ, _*_}
+use Prim.Native.Nat.{_*_}
 use lib.ListN.{length, take, replicate}
 use lib.Ieee.{Float}
 use Rattle.loops.specs.Arithmetic.{+0}

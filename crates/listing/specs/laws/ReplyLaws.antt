@@ -1,12 +1,10 @@
 -- What holds of replies: A y does not depend on what stood where it is written, and a state of more components than are served is
 -- refused, whatever is replied.
 use mathlib.Core.Path.{_≡_, refl, sym, ap, _∙_}
-use mathlib.Core.Bool.{true}
 use mathlib.Core.List.{List, [], _∷_, _++_}
 use Prim.Native.Nat.{ℕ, zero, suc, _+_, _*_, _≤_, _<_}
 use native.Mathlib.Numerals.{add-one}
 use native.Mathlib.Omega.{arith}
-use lib.Dec.{leb, eqb}
 use lib.ListN.{length, take, set, replicate, length-replicate}
 use lib.Seq.{take-all, take-suc-set}
 use lib.Ieee.{Float}
@@ -14,14 +12,13 @@ use borrow.Author.Tests.{le-leb, lt-ltb, eq-eqb}
 use Rattle.loops.specs.Arithmetic.{+0}
 use Rattle.loops.specs.Choice.{if_then_else_}
 use Rattle.loops.specs.Loop.{loop}
-use Rattle.loops.specs.laws.ChoiceLaws.{when-true, and-passes}
 use Rattle.loops.specs.laws.LoopLaws.{stored-length}
 use Rattle.loops.specs.laws.Turned.{loop-more}
 use Rattle.matrix.specs.Size.{maxN}
-use Rattle.rules.specs.State.{After, after}
+use Rattle.rules.specs.State.{after}
 use Rattle.rules.specs.GoOn.{damaged, goChecked, goOn}
 use Rattle.job.specs.Right.{rowSum, rightTurn, rightOf, sizedOf, rightSideOf}
-use Rattle.listing.specs.Types.{Reply, Refused, Damaged, Run, Turn}
+use Rattle.listing.specs.Types.{Reply, Refused, Damaged, Run}
 use Rattle.listing.specs.Replies.{timesOf}
 
 -- ---- A y

@@ -13,22 +13,20 @@ use Rattle.loops.specs.Arithmetic.{+0}
 use Rattle.loops.specs.laws.ChoiceLaws.{either, when-false}
 use Rattle.text.specs.laws.Fronts.{squared}
 use Rattle.matrix.specs.Size.{maxN}
-use Rattle.lines.specs.Types.{Status}
-use Rattle.lines.specs.Lines.{endLine}
 use Rattle.rules.specs.Answers.{isRefused, isQuestionOrNotice}
 use Rattle.rules.specs.Places.{need}
 use Rattle.rules.specs.State.{After, after}
-use Rattle.rules.specs.Calls.{Configuration, beginning, Call, goingOn, size}
-use Rattle.rules.specs.History.{begun, Exchange, begins, goes-on, is-refused, questionsAndNotices}
+use Rattle.rules.specs.Calls.{Configuration, beginning, goingOn, size}
+use Rattle.rules.specs.History.{begun, Exchange, begins, goes-on, questionsAndNotices}
 use Rattle.rules.specs.Known.{isModified, StillAsTold, leaves, LeftAlone}
 use Rattle.rules.specs.laws.GoOnLaws.{few-undamaged}
 use Rattle.rules.specs.laws.HistoryLaws.{last-taken}
 use Rattle.rules.specs.promises.NeverDamaged.{never-damaged, RepliesTo, in-kind-is-taken}
 use Rattle.rules.specs.promises.RunEnds.{most, no-longer}
 use Rattle.listing.specs.Types.{Answer, Derivative, Jacobian, Start, Step, End, Refused, Run, Turn}
-use Rattle.listing.specs.Replies.{replyTo, valuesFor, replying, replied}
+use Rattle.listing.specs.Replies.{replyTo, replying, replied}
 use Rattle.listing.specs.Printed.{lineOf, linesFrom, blankWork, blankQuestion, runLines}
-use Rattle.listing.specs.Telling.{Tells, last, more, linesOf, Ours, Ran}
+use Rattle.listing.specs.Telling.{last, more, linesOf, Ours, Ran}
 use Rattle.listing.specs.laws.LengthLaws.{beginning-keeps-lengths, call-keeps-lengths, times-long}
 
 -- where the first answer is the last, `linesFrom` is its line

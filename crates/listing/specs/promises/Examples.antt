@@ -28,7 +28,6 @@ use Rattle.rules.specs.Begin.{spanOf, kept, beginWs, askFirst, beginRun, beginO
 use Rattle.rules.specs.GoOn.{pivotOutside, limitsDamaged, stepsDamaged, countersDamaged, damagedAbove0, damaged, goChecked, goWithin, goOn}
 use Rattle.text.specs.Digits.{digit, spelled, placesWithin}
 use Rattle.text.specs.Words.{wordFrom}
-use Rattle.rules.specs.Refusals.{numberOf}
 use Rattle.lines.specs.Lines.{spaced, line, hexes}
 use Rattle.job.specs.Packed.{headBits, doublesOf}
 use Rattle.job.specs.Reading.{acceptedOf, firstStepOf, jobOf, acceptedRead, headRead, readOf}

@@ -1,6 +1,6 @@
 -- `opening::fitted` meets its contract: the beginning is over just the places of the components, and where it asks the cells are
 -- copied whole. Assumes nothing.
-use mathlib.Core.Path.{_≡_, sym, ap, subst, _∙_}
+use mathlib.Core.Path.{_≡_, sym, subst, _∙_}
 use mathlib.Core.Bool.{true, false}
 use mathlib.Core.List.{List, _++_, append-nil}
 use native.Mathlib.Omega.{arith}

@@ -1,5 +1,5 @@
 -- `opening::refused` meets its contract: a beginning of no components has ended, whatever else it is given. Assumes nothing.
-use mathlib.Core.Path.{_≡_, refl, ap, _∙_}
+use mathlib.Core.Path.{ap}
 use borrow.Author.Needs.{needs}
 use Rattle.loops.specs.Choice.{if_then_else_}
 use Rattle.rules.specs.State.{After}

@@ -1,5 +1,4 @@
 -- `pages::answered` meets its contract: by the place that the line came to. Assumes nothing.
-use native.Mathlib.Omega.{arith}
 use borrow.Author.Needs.{needs}
 use Rattle.rules.specs.State.{after}
 use Rattle.listing.specs.laws.FilledLaws.{answer-put, answer-not-put}

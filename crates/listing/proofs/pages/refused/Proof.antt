@@ -4,11 +4,11 @@ use mathlib.Core.List.{List}
 use Prim.Native.Nat.{ℕ}
 use borrow.Author.Needs.{needs}
 use Rattle.text.specs.declared.page.Place.{Place}
-use Rattle.text.specs.declared.page.Place.the-variants.{At, Full}
+use Rattle.text.specs.declared.page.Place.the-variants.{At}
 use Rattle.text.specs.Page.{Page as Put, puts}
 use Rattle.lines.specs.Lines.{refusalLine}
 use Rattle.listing.specs.Types.{Run}
-use Rattle.listing.specs.Pages.{overOf, pageOf, refusedAt}
+use Rattle.listing.specs.Pages.{refusedAt}
 use Rattle.listing.specs.declared.pages.Page.{Page}
 use Rattle.listing.proofs.pages.refused.Statement.{statement}
 use Rattle.listing.proofs.pages.refused.Tie as tie

@@ -5,7 +5,7 @@ use mathlib.Core.List.{List, _++_}
 use Prim.Native.Nat.{ℕ, suc, _+_, _-_, _≤_, _<_}
 use native.Mathlib.Numerals.{add-one}
 use native.Mathlib.Omega.{arith}
-use lib.ListN.{length, take, drop, set, getD, length-set}
+use lib.ListN.{length, drop, set, getD, length-set}
 use lib.Seq.{take-all, paste, paste-zero, paste-suc}
 use lib.Ieee.{Float, nan}
 use Rattle.listing.proofs.replies.copy.Statement.{statement}

@@ -3,20 +3,19 @@
 use mathlib.Core.Path.{_≡_, refl, sym, _∙_}
 use mathlib.Core.Bool.{Bool, true, false}
 use mathlib.Core.List.{List}
-use Prim.Native.Nat.{ℕ, _*_, _≤_, _<_}
+use Prim.Native.Nat.{_*_, _≤_, _<_}
 use native.Mathlib.Omega.{arith}
 use lib.Dec.{leb}
-use lib.ListN.{length, take}
+use lib.ListN.{take}
 use lib.Ieee.{Float}
 use borrow.Author.Needs.{needs}
 use borrow.Author.Tests.{leb-true, leb-false}
-use Rattle.loops.specs.laws.ChoiceLaws.{either}
 use Rattle.matrix.specs.Size.{maxN}
 use Rattle.text.specs.laws.Fronts.{front}
 use Rattle.rules.specs.State.{After, after}
 use Rattle.rules.specs.Calls.{size}
 use Rattle.rules.specs.GoOn.{goOn}
-use Rattle.listing.specs.Types.{Answer, Reply, Turn}
+use Rattle.listing.specs.Types.{Turn}
 use Rattle.listing.specs.Replies.{replyTo, valuesFor, replied}
 use Rattle.listing.specs.laws.ReplyLaws.{too-many-refused}
 use Rattle.listing.proofs.replies.replied.Statement.{statement}
