@@ -22,7 +22,7 @@ REFUSALS = {
     "8": "first_step is 0",
     "17": "the job file is damaged",
 }
-COUNTERS = ("attempts", "accepted", "rejected", "derivatives", "Jacobians", "factorings")
+COUNTERS = ("attempts", "accepted", "rejected", "derivatives", "Jacobians", "factorings", "start")
 
 
 class Outcome:
@@ -48,6 +48,14 @@ class Outcome:
 
     def counters(self):
         return dict(zip(COUNTERS, self.ended[2:])) if self.ended else {}
+
+    def counted(self):
+        """The counters in words. The start's derivative is none of the others, so it stands beside them."""
+        counts = self.counters()
+        start = counts.pop("start")
+        words = {name: f"{count} {name}" for name, count in counts.items()}
+        words["derivatives"] += f" and {'none' if start == '0' else start} for the start"
+        return ", ".join(words.values())
 
 
 def read(job, lines, exit_status=0):
@@ -75,15 +83,25 @@ def take(outcome, line):
         outcome.refused = fields[0]
         return None if not outcome.xs else "refuses a run that had begun"
     if kind == "E":
-        ended = len(fields) == 8 and fields[0] in ENDS and is_double(fields[1]) and all(re.fullmatch("[0-9]{1,20}", f) for f in fields[2:])
-        outcome.ended = fields if ended else None
-        return None if ended else "is no end line"
+        return take_end(outcome, fields)
     if kind == ("S" if outcome.xs else "I") and len(fields) == 1 + outcome.job.n and all(map(is_double, fields)):
         x, *y = (value(int(field, 16)) for field in fields)
         outcome.xs.append(x)
         outcome.ys.append(y)
         return None
     return "is none that this job can print there"
+
+
+def take_end(outcome, fields):
+    status, h, *counts = fields if len(fields) > 2 else ("", "")
+    if status not in ENDS or not is_double(h) or not all(re.fullmatch("[0-9]{1,20}", count) for count in counts):
+        return "is no end line"
+    if len(counts) == len(COUNTERS) - 1:
+        return "is the end line of an earlier edition, which did not count the start's derivative: run the job again"
+    if len(counts) != len(COUNTERS) or counts[-1] not in ("0", "1"):
+        return "is no end line"
+    outcome.ended = fields
+    return None
 
 
 def is_double(field):
@@ -100,9 +118,17 @@ def whole(outcome):
     notices = max(len(outcome.xs) - 1, 0)
     if notices != accepted or accepted + rejected != total:
         return f"the end line counts {accepted} steps of {total} attempts, the output shows {notices}: lines are missing"
+    start = int(outcome.counters()["start"])
+    if start != starts(outcome.job):
+        return f"the end line counts {start} for the start, but this job takes {starts(outcome.job)}: the lines are another job's"
     if outcome.ended[0] == "0" and outcome.job.n > 0 and not reached(outcome):
         return "the end line says Success, but the last line is short of xend"
     return None
+
+
+def starts(job):
+    """How many derivatives the start of a job takes: one where it finds the first step by itself."""
+    return 1 if job.first_step is None and job.n > 0 else 0
 
 
 def reached(outcome):
@@ -119,8 +145,7 @@ def table(outcome, most=12):
         lines.append(f"{i:>16}" + "".join(f"{x:>16.6g}" for x in [outcome.xs[i], *outcome.ys[i][:shown]]))
     if picked and shown < job.n:
         lines.append(f"(and {job.n - shown} more components, in the picture)")
-    counted = ", ".join(f"{count} {name}" for name, count in outcome.counters().items())
-    return lines + ([counted] if counted else [])
+    return lines + ([outcome.counted()] if outcome.ended else [])
 
 
 def rows(xs, most):
@@ -143,4 +168,4 @@ def progress(outcome):
     line = f"It came to x = {x!r}, and xend is {xend!r}"
     if math.isfinite(xend - x0) and xend != x0 and math.isfinite(x):
         line += f": {100 * (x - x0) / (xend - x0):.3g} % of the way"
-    return line + ". The last value is NOT the end's."
+    return line + (". Do NOT take the last value for the end's." if outcome.fault else ". The last value is NOT the end's.")

@@ -21,8 +21,10 @@ FIRST_BYTES = "0461A80200 0000000000000000 3FF0000000000000 3FE0000000000000 3F5
 FIRST_LINES = """I 0000000000000000 3FF0000000000000
 S 3FE0000000000000 3FF0000000000000
 S 3FF0000000000000 3FF0000000000000
-E 0 3FE0000000000000 2 2 0 3 1 1
+E 0 3FE0000000000000 2 2 0 3 1 1 0
 """
+# The same with an automatic start.
+AUTOMATIC = FIRST.replace("first_step 0.5", "first_step automatic")
 
 
 def first():
@@ -36,7 +38,7 @@ def read(text, exit_status=0):
 class Packing(unittest.TestCase):
     def test_first_job(self):
         self.assertEqual(first().packed(), bytes.fromhex(FIRST_BYTES))
-        automatic = packed.of_text(FIRST.replace("first_step 0.5", "first_step automatic"), "first").packed()
+        automatic = packed.of_text(AUTOMATIC, "first").packed()
         self.assertEqual(automatic[:5].hex(), "0461a80240")
         self.assertEqual(automatic[21:29], bytes(8))
 
@@ -59,7 +61,7 @@ class Packing(unittest.TestCase):
 
     def test_unfit_files(self):
         good = first().packed()
-        automatic = packed.of_text(FIRST.replace("first_step 0.5", "first_step automatic"), "first").packed()
+        automatic = packed.of_text(AUTOMATIC, "first").packed()
         minus_zero = automatic[:21] + bytes([0x80]) + automatic[22:]
         unfit = [b"", good[:4], good[:-1], good + b"\0", good[:4] + b"\1" + good[5:], minus_zero]
         above = [bytes([33 << 2]) + good[1:], bytes([63 << 2, 0, 0, 0, 1])]
@@ -117,13 +119,10 @@ class Finished(unittest.TestCase):
         self.drawn(read(FIRST_LINES))
 
     def test_cut_off_anywhere(self):
-        # a last counter of two digits: with one of them cut off it is still a counter
-        for lines in (FIRST_LINES, FIRST_LINES[:-2] + "12\n"):
-            self.assertTrue(read(lines).finished)
-            for length in range(len(lines)):
-                came = read(lines[:length])
-                self.assertFalse(came.finished, lines[:length])
-                self.drawn(came)
+        for length in range(len(FIRST_LINES)):
+            came = read(FIRST_LINES[:length])
+            self.assertFalse(came.finished, FIRST_LINES[:length])
+            self.drawn(came)
 
     def test_a_line_missing_or_twice(self):
         lines = FIRST_LINES.splitlines(keepends=True)
@@ -143,6 +142,30 @@ class Finished(unittest.TestCase):
 
     def test_counters_that_do_not_add_up(self):
         self.assertFalse(read(FIRST_LINES.replace(" 2 2 0 ", " 3 2 0 ")).finished)
+
+    def test_an_end_line_that_lacks_the_start(self):
+        came = read(FIRST_LINES.replace(" 3 1 1 0\n", " 3 1 1\n"))
+        self.assertFalse(came.finished)
+        self.assertIn("line 4 of the output is the end line of an earlier edition", came.status())
+        self.assertIn("Do NOT take the last value for the end's", outcome.progress(came))
+        self.drawn(came)
+        for counts in (" 3 1 1 0 0\n", " 3 1\n", "\n", " 3 1 1 \n", " 3 1 1 2\n", " 3 1 1 00\n"):
+            came = read(FIRST_LINES.replace(" 3 1 1 0\n", counts))
+            self.assertIn("line 4 of the output is no end line", came.status())
+
+    def test_the_start_in_words(self):
+        self.assertEqual(read(FIRST_LINES).counted(), "2 attempts, 2 accepted, 0 rejected, 3 derivatives and none for the start, 1 Jacobians, 1 factorings")
+        lines = FIRST_LINES.replace(" 3 1 1 0\n", " 3 1 1 1\n")
+        came = outcome.read(packed.of_text(AUTOMATIC, "automatic"), lines.splitlines(keepends=True))
+        self.assertTrue(came.finished)
+        self.assertIn("3 derivatives and 1 for the start, ", came.counted())
+
+    def test_a_start_that_is_another_job_s(self):
+        for lines, text in ((FIRST_LINES.replace(" 1 0\n", " 1 1\n"), FIRST), (FIRST_LINES, AUTOMATIC)):
+            came = outcome.read(packed.of_text(text, "t"), lines.splitlines(keepends=True))
+            self.assertFalse(came.finished)
+            self.assertIn("for the start, but this job takes", came.status())
+            self.drawn(came)
 
     def test_success_short_of_the_end(self):
         self.assertFalse(read(FIRST_LINES.replace("S 3FF0000000000000", "S 3FEFFFFFFFFFFFFF")).finished)

@@ -6,15 +6,19 @@ use ivp_patched::matrix::Matrix;
 use ivp_patched::methods::BDF;
 use ivp_patched::solout::{ControlFlag, SolOut};
 use ivp_patched::status::Status;
+use std::cell::Cell;
 use std::io::{BufWriter, Read, Stdout, Write};
 
-/// y' = A y, each sum from +0 upward by column.
+/// y' = A y, each sum from +0 upward by column. It counts how often it is asked, so that `start` can be printed: the Rust's `ode`
+/// leaves the start's derivative out.
 struct Linear {
     a: Vec<f64>,
+    asked: Cell<usize>,
 }
 
 impl FirstOrderSystem for Linear {
     fn derivative(&self, _: f64, y: &[f64], dydx: &mut [f64]) {
+        self.asked.set(self.asked.get() + 1);
         let n = y.len();
         for (i, d) in dydx.iter_mut().enumerate() {
             let mut sum = 0.0;
@@ -67,7 +71,7 @@ fn main() {
     solver.newton_maxiter = (head >> 7 & 0x7F) as usize;
     solver.first_step = (!automatic).then_some(doubles[2]);
     let mut lines = Lines(BufWriter::with_capacity(65_536, std::io::stdout()));
-    let system = Linear { a: doubles[5 + n..].to_vec() };
+    let system = Linear { a: doubles[5 + n..].to_vec(), asked: Cell::new(0) };
     let done = solver.solve(&system, doubles[0], &doubles[5..5 + n], doubles[1], doubles[3].into(), doubles[4].into(), Some(&mut lines)).unwrap();
     let status = match done.status {
         Status::Success => 0,
@@ -78,5 +82,6 @@ fn main() {
     write!(lines.0, "E {status}").unwrap();
     lines.double(done.h);
     let (steps, evals) = (done.steps, done.evals);
-    writeln!(lines.0, " {} {} {} {} {} {}", steps.total, steps.accepted, steps.rejected, evals.ode, evals.jac, evals.lu).unwrap();
+    let start = system.asked.get() - evals.ode;
+    writeln!(lines.0, " {} {} {} {} {} {} {start}", steps.total, steps.accepted, steps.rejected, evals.ode, evals.jac, evals.lu).unwrap();
 }

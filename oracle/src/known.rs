@@ -92,18 +92,18 @@ fn runs() -> Vec<Known> {
     vec![
         Known { words: still(100_000, 1.0, Some(0.5), None), text: FIRST_JOB },
         Known { words: still(1, 1.0, Some(0.5), None), text: FIRST_JOB_OF_ONE_STEP },
-        Known { words: still(100_000, 0.0, Some(0.5), None), text: "+E 3 0000000000000000 0 0 0 1 1 0\n" },
-        Known { words: still(100_000, 0.0, Some(0.5), Some(1.0)), text: "+E 0 3FE0000000000000 0 0 0 1 1 0\n" },
-        Known { words: still(100_000, 0.0, None, None), text: "+E 3 0000000000000000 0 0 0 1 1 0\n" },
+        Known { words: still(100_000, 0.0, Some(0.5), None), text: "+E 3 0000000000000000 0 0 0 1 1 0 0\n" },
+        Known { words: still(100_000, 0.0, Some(0.5), Some(1.0)), text: "+E 0 3FE0000000000000 0 0 0 1 1 0 0\n" },
+        Known { words: still(100_000, 0.0, None, None), text: "+E 3 0000000000000000 0 0 0 1 1 0 1\n" },
         Known { words: still(100_000, 1.0, Some(0.0), None), text: "R 8 0000000000000000 3FF0000000000000\n" },
-        Known { words: many(32), text: "+E 0 3FE0000000000000 2 2 0 3 1 1\n" },
+        Known { words: many(32), text: "+E 0 3FE0000000000000 2 2 0 3 1 1 0\n" },
         Known { words: many(33), text: "R 1\n" },
-        Known { words: many(0), text: "E 0 0000000000000000 0 0 0 0 0 0\n" },
+        Known { words: many(0), text: "E 0 0000000000000000 0 0 0 0 0 0 0\n" },
         // with a limit of 0, read as 1, a correction of norm 0 converges
         Known { words: still_under(0), text: FIRST_JOB },
         // y' = -y never has a correction of norm 0: with a limit of 0, read as 1, every attempt fails
-        Known { words: decay(0), text: "+E 2 3FA0000000000000 3 0 3 4 4 3\n" },
-        Known { words: decay(1), text: "+E 2 3FA0000000000000 3 0 3 4 4 3\n" },
+        Known { words: decay(0), text: "+E 2 3FA0000000000000 3 0 3 4 4 3 0\n" },
+        Known { words: decay(1), text: "+E 2 3FA0000000000000 3 0 3 4 4 3 0\n" },
     ]
 }
 
@@ -115,7 +115,7 @@ D 3FE0000000000000 3FF0000000000000
 S 0000000000000000 3FE0000000000000 0000000000000000 3FE0000000000000 3FF0000000000000 3FF0000000000000 0000000000000000 0000000000000000 0000000000000000 0000000000000000 0000000000000000 3FF0000000000000
 D 3FF0000000000000 3FF0000000000000
 S 3FE0000000000000 3FF0000000000000 3FE0000000000000 3FE0000000000000 3FF0000000000000 3FF0000000000000 0000000000000000 0000000000000000 0000000000000000 0000000000000000 0000000000000000 3FF0000000000000
-E 0 3FE0000000000000 2 2 0 3 1 1
+E 0 3FE0000000000000 2 2 0 3 1 1 0
 ";
 
 const FIRST_JOB_OF_ONE_STEP: &str = "\
@@ -124,7 +124,7 @@ J 0000000000000000 3FF0000000000000
 I 0000000000000000 3FF0000000000000
 D 3FE0000000000000 3FF0000000000000
 S 0000000000000000 3FE0000000000000 0000000000000000 3FE0000000000000 3FF0000000000000 3FF0000000000000 0000000000000000 0000000000000000 0000000000000000 0000000000000000 0000000000000000 3FF0000000000000
-E 2 3FE0000000000000 1 1 0 2 1 1
+E 2 3FE0000000000000 1 1 0 2 1 1 0
 ";
 
 /// Whether an answer is the one printed; after `+` only its last lines are.

@@ -117,10 +117,10 @@ pub fn known_jobs() -> Vec<(&'static str, Vec<u8>, &'static str)> {
     };
     vec![
         ("the first job", first(100_000).bytes(), FIRST_JOB),
-        ("one step", first(1).bytes(), "I 0000000000000000 3FF0000000000000\nS 3FE0000000000000 3FF0000000000000\nE 2 3FE0000000000000 1 1 0 2 1 1\n"),
-        ("automatic, 0", automatic(0.0).bytes(), "I 0000000000000000 3FF0000000000000\nS 3EB0C6F7A0B5ED8D 3FF0000000000000\nE 2 3EB0C6F7A0B5ED8D 1 1 0 2 1 1\n"),
+        ("one step", first(1).bytes(), "I 0000000000000000 3FF0000000000000\nS 3FE0000000000000 3FF0000000000000\nE 2 3FE0000000000000 1 1 0 2 1 1 0\n"),
+        ("automatic, 0", automatic(0.0).bytes(), "I 0000000000000000 3FF0000000000000\nS 3EB0C6F7A0B5ED8D 3FF0000000000000\nE 2 3EB0C6F7A0B5ED8D 1 1 0 2 1 1 1\n"),
         ("automatic, -0", automatic(-0.0).bytes(), "R 17\n"),
-        ("n 0 ends, whatever else is set", none(0, 0.0).bytes(), "E 0 0000000000000000 0 0 0 0 0 0\n"),
+        ("n 0 ends, whatever else is set", none(0, 0.0).bytes(), "E 0 0000000000000000 0 0 0 0 0 0 0\n"),
         ("n 0 with padding", none(1, 0.0).bytes(), "R 17\n"),
         ("n 0 with a first step", none(0, -0.0).bytes(), "R 17\n"),
         ("n 0 and a byte more", [none(0, 0.0).bytes(), vec![0]].concat(), "R 17\n"),
@@ -134,5 +134,5 @@ const FIRST_JOB: &str = "\
 I 0000000000000000 3FF0000000000000
 S 3FE0000000000000 3FF0000000000000
 S 3FF0000000000000 3FF0000000000000
-E 0 3FE0000000000000 2 2 0 3 1 1
+E 0 3FE0000000000000 2 2 0 3 1 1 0
 ";

@@ -27,6 +27,8 @@ pub trait Replies {
 struct Exchange<'a> {
     replies: &'a mut dyn Replies,
     text: &'a mut String,
+    /// how many derivatives `solve` has asked
+    derivatives: usize,
 }
 
 struct System<'a, 'b>(&'a RefCell<Exchange<'b>>);
@@ -44,6 +46,7 @@ impl Exchange<'_> {
 impl FirstOrderSystem for System<'_, '_> {
     fn derivative(&self, x: f64, y: &[f64], dydx: &mut [f64]) {
         let exchange = &mut *self.0.borrow_mut();
+        exchange.derivatives += 1;
         exchange.line(format!("D {}", hex(x)), y, &[]);
         exchange.replies.derivative(x, y, dydx);
     }
@@ -94,20 +97,22 @@ pub fn run(config: &Config, replies: &mut dyn Replies, text: &mut String) {
         solver.first_step = config.first_step.filter(|&h| h == 0.0).or(Some(0.0));
     }
     let exchange = RefCell::new(match late {
-        true => Exchange { replies: &mut nothing, text: &mut dropped },
-        false => Exchange { replies, text: &mut *text },
+        true => Exchange { replies: &mut nothing, text: &mut dropped, derivatives: 0 },
+        false => Exchange { replies, text: &mut *text, derivatives: 0 },
     });
     let n = config.y0.len();
     let (rtol, atol) = (first_entries(&config.rtol, n), first_entries(&config.atol, n));
     let result = solver.solve(&System(&exchange), config.x0, &config.y0, config.xend, rtol, atol, Some(&mut Listener(&exchange)));
+    let asked = exchange.into_inner().derivatives;
     *text += &match result {
-        Ok(result) => end_line(&result),
+        Ok(result) => end_line(&result, asked),
         Err(error) => config.refusal(error),
     };
     text.push('\n');
 }
 
-fn end_line(result: &IntegrationResult) -> String {
+/// Last comes `start`, for which the Rust has no counter: the derivatives that it asked beyond those that it counts.
+fn end_line(result: &IntegrationResult, asked: usize) -> String {
     let status = match result.status {
         Status::Success => 0,
         Status::UserInterrupt => 1,
@@ -116,7 +121,9 @@ fn end_line(result: &IntegrationResult) -> String {
         _ => unreachable!(),
     };
     let (steps, evals) = (&result.steps, &result.evals);
-    format!("E {status} {} {} {} {} {} {} {}", hex(result.h), steps.total, steps.accepted, steps.rejected, evals.ode, evals.jac, evals.lu)
+    let counts = [steps.total, steps.accepted, steps.rejected, evals.ode, evals.jac, evals.lu, asked - evals.ode];
+    let counts = counts.map(|count| count.to_string()).join(" ");
+    format!("E {status} {} {counts}", hex(result.h))
 }
 
 struct Nothing;

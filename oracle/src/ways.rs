@@ -82,16 +82,16 @@ fn ends() -> Vec<Known> {
     vec![
         Known {
             words: still(0.9, 0.1),
-            text: "+S 3FC9999999999998 3FECCCCCCCCCCCCC 3FC999999999999A 3FE6666666666666 3FF0000000000000 3FF0000000000000 0000000000000000 0000000000000000 0000000000000000 0000000000000000 0000000000000000 4000000000000000\nE 3 3CA0000000000000 3 3 0 4 2 2\n",
+            text: "+S 3FC9999999999998 3FECCCCCCCCCCCCC 3FC999999999999A 3FE6666666666666 3FF0000000000000 3FF0000000000000 0000000000000000 0000000000000000 0000000000000000 0000000000000000 0000000000000000 4000000000000000\nE 3 3CA0000000000000 3 3 0 4 2 2 0\n",
         },
         Known {
             words: still(1.3, 0.3),
-            text: "+S 3FE3333333333334 3FF4CCCCCCCCCCCE 3FE3333333333333 3FE6666666666668 3FF0000000000000 3FF0000000000000 0000000000000000 0000000000000000 0000000000000000 0000000000000000 0000000000000000 4000000000000000\nE 0 3FE6666666666668 3 3 0 4 2 2\n",
+            text: "+S 3FE3333333333334 3FF4CCCCCCCCCCCE 3FE3333333333333 3FE6666666666668 3FF0000000000000 3FF0000000000000 0000000000000000 0000000000000000 0000000000000000 0000000000000000 0000000000000000 4000000000000000\nE 0 3FE6666666666668 3 3 0 4 2 2 0\n",
         },
         // from +0 to -0 the direction is -1, and h is -0
-        Known { words: nowhere(-0.0, Some(0.5)), text: "+E 3 8000000000000000 0 0 0 1 1 0\n" },
-        Known { words: nowhere(-0.0, None), text: "+E 3 8000000000000000 0 0 0 1 1 0\n" },
-        Known { words: nowhere(0.0, Some(0.5)), text: "+E 3 0000000000000000 0 0 0 1 1 0\n" },
+        Known { words: nowhere(-0.0, Some(0.5)), text: "+E 3 8000000000000000 0 0 0 1 1 0 0\n" },
+        Known { words: nowhere(-0.0, None), text: "+E 3 8000000000000000 0 0 0 1 1 0 1\n" },
+        Known { words: nowhere(0.0, Some(0.5)), text: "+E 3 0000000000000000 0 0 0 1 1 0 0\n" },
     ]
 }
 
@@ -104,8 +104,8 @@ fn factoring() -> Vec<Known> {
         linear(&config, -1.0)
     };
     vec![
-        Known { words: decay(0.05), text: "+E 2 3F60624DD2F1A9FD 2 0 2 7 1 1\n" },
-        Known { words: decay(0.2), text: "+E 2 3F80624DD2F1A9FD 2 0 2 5 1 2\n" },
+        Known { words: decay(0.05), text: "+E 2 3F60624DD2F1A9FD 2 0 2 7 1 1 0\n" },
+        Known { words: decay(0.2), text: "+E 2 3F80624DD2F1A9FD 2 0 2 5 1 2 0\n" },
     ]
 }
 
@@ -126,10 +126,10 @@ fn guards() -> Vec<Known> {
         linear(&config, 2f64.powi(1022))
     };
     vec![
-        Known { words: ulps(1.0), text: "+E 3 BCC8000000000000 0 0 0 1 1 0\n" },
-        Known { words: ulps(-1.0), text: "+E 0 3CC8000000000000 1 1 0 2 1 1\n" },
-        Known { words: singular(1), text: "+E 2 00097AE147AE147B 1 0 1 1 1 1\n" },
-        Known { words: singular(2), text: "+E 3 00097AE147AE147B 1 0 1 1 1 1\n" },
+        Known { words: ulps(1.0), text: "+E 3 BCC8000000000000 0 0 0 1 1 0 0\n" },
+        Known { words: ulps(-1.0), text: "+E 0 3CC8000000000000 1 1 0 2 1 1 0\n" },
+        Known { words: singular(1), text: "+E 2 00097AE147AE147B 1 0 1 1 1 1 0\n" },
+        Known { words: singular(2), text: "+E 3 00097AE147AE147B 1 0 1 1 1 1 0\n" },
     ]
 }
 
@@ -143,11 +143,11 @@ fn modified() -> Vec<Known> {
     vec![
         Known {
             words: whole(vec![Told::Continue, Told::Modified(1.0, vec![2.0])]),
-            text: "+D 3FF0000000000000 4000000000000000\nJ 3FF0000000000000 4000000000000000\nE 0 3FF0000000000000 1 1 0 3 2 1\n",
+            text: "+D 3FF0000000000000 4000000000000000\nJ 3FF0000000000000 4000000000000000\nE 0 3FF0000000000000 1 1 0 3 2 1 0\n",
         },
         Known {
             words: whole(vec![Told::Modified(2.0, vec![1.0])]),
-            text: "+D 4000000000000000 3FF0000000000000\nJ 4000000000000000 3FF0000000000000\nD 4008000000000000 3FF0000000000000\nS 4000000000000000 4008000000000000 4000000000000000 3FF0000000000000 3FF0000000000000 3FF0000000000000 0000000000000000 0000000000000000 0000000000000000 0000000000000000 0000000000000000 3FF0000000000000\nE 0 3FF0000000000000 1 1 0 3 2 1\n",
+            text: "+D 4000000000000000 3FF0000000000000\nJ 4000000000000000 3FF0000000000000\nD 4008000000000000 3FF0000000000000\nS 4000000000000000 4008000000000000 4000000000000000 3FF0000000000000 3FF0000000000000 3FF0000000000000 0000000000000000 0000000000000000 0000000000000000 0000000000000000 0000000000000000 3FF0000000000000\nE 0 3FF0000000000000 1 1 0 3 2 1 0\n",
         },
     ]
 }
@@ -166,17 +166,17 @@ fn rounding() -> Vec<Known> {
         // y0 is -0 and D[1] is -0: the prediction that is asked about is +0
         Known {
             words: linear(&backward, 0.0),
-            text: "+I 0000000000000000 8000000000000000\nD BFE0000000000000 0000000000000000\nS 0000000000000000 BFE0000000000000 0000000000000000 BFE0000000000000 0000000000000000 0000000000000000 0000000000000000 0000000000000000 0000000000000000 0000000000000000 0000000000000000 3FF0000000000000\nE 2 BFE0000000000000 1 1 0 2 1 1\n",
+            text: "+I 0000000000000000 8000000000000000\nD BFE0000000000000 0000000000000000\nS 0000000000000000 BFE0000000000000 0000000000000000 BFE0000000000000 0000000000000000 0000000000000000 0000000000000000 0000000000000000 0000000000000000 0000000000000000 0000000000000000 3FF0000000000000\nE 2 BFE0000000000000 1 1 0 2 1 1 0\n",
         },
         // y is 3FEE632D73ABBCB9, D[0] one ulp less
         Known {
             words: linear(&nineteenth, -1.0),
-            text: "+S 0000000000000000 3FAAF286BCA1AF28 0000000000000000 3FAAF286BCA1AF28 3FEE632D73ABBCB9 3FEE632D73ABBCB8 BFA9CD28C5443479 0000000000000000 0000000000000000 0000000000000000 0000000000000000 3FF0000000000000\nE 2 3FAAF286BCA1AF28 1 1 0 3 1 1\n",
+            text: "+S 0000000000000000 3FAAF286BCA1AF28 0000000000000000 3FAAF286BCA1AF28 3FEE632D73ABBCB9 3FEE632D73ABBCB8 BFA9CD28C5443479 0000000000000000 0000000000000000 0000000000000000 0000000000000000 3FF0000000000000\nE 2 3FAAF286BCA1AF28 1 1 0 3 1 1 0\n",
         },
         // the old x is told as 3FB999999999999C, two ulps above the start
         Known {
             words: linear(&tenths, 0.0),
-            text: "+S 3FB999999999999C 3FD3333333333334 3FB999999999999A 3FC999999999999A 3FF0000000000000 3FF0000000000000 0000000000000000 0000000000000000 0000000000000000 0000000000000000 0000000000000000 3FF0000000000000\nE 2 3FC999999999999A 1 1 0 2 1 1\n",
+            text: "+S 3FB999999999999C 3FD3333333333334 3FB999999999999A 3FC999999999999A 3FF0000000000000 3FF0000000000000 0000000000000000 0000000000000000 0000000000000000 0000000000000000 0000000000000000 3FF0000000000000\nE 2 3FC999999999999A 1 1 0 2 1 1 0\n",
         },
     ]
 }
@@ -200,21 +200,21 @@ fn newton_tolerances() -> Vec<Known> {
     };
     let mut one_pass = half(1);
     one_pass.newton_maxiter = 1;
-    let (two, many) = ("+E 2 3FE0000000000000 1 1 0 3 1 1\n", "+E 2 3FE0000000000000 1 1 0 24 1 1\n");
-    let failed = "+J 3FE0000000000000 3FE0000000000000\nE 2 3FD0000000000000 1 0 1 3 2 1\n";
+    let (two, many) = ("+E 2 3FE0000000000000 1 1 0 3 1 1 0\n", "+E 2 3FE0000000000000 1 1 0 24 1 1 0\n");
+    let failed = "+J 3FE0000000000000 3FE0000000000000\nE 2 3FD0000000000000 1 0 1 3 2 1 0\n";
     vec![
-        Known { words: linear(&one_pass, -1.0), text: "+J 3FE0000000000000 3FE0000000000000\nE 2 3FD0000000000000 1 0 1 2 2 1\n" },
+        Known { words: linear(&one_pass, -1.0), text: "+J 3FE0000000000000 3FE0000000000000\nE 2 3FD0000000000000 1 0 1 2 2 1 0\n" },
         Known { words: passes(0.0, None, 4), text: two },
         Known { words: passes(0.0, Some(10.0), 4), text: two },
-        Known { words: passes(0.0, Some(0.03), 4), text: "+E 2 3FE0000000000000 1 1 0 4 1 1\n" },
+        Known { words: passes(0.0, Some(0.03), 4), text: "+E 2 3FE0000000000000 1 1 0 4 1 1 0\n" },
         Known { words: passes(1e-3, Some(-1.0), 40), text: many },
         Known { words: passes(1e-3, Some(0.0), 40), text: many },
         Known { words: passes(1e-3, Some(1e-9), 40), text: many },
-        Known { words: passes(1e-3, Some(1e-3), 40), text: "+E 2 3FE0000000000000 1 1 0 8 1 1\n" },
+        Known { words: passes(1e-3, Some(1e-3), 40), text: "+E 2 3FE0000000000000 1 1 0 8 1 1 0\n" },
         Known { words: nan(1e-3, Some(f64::NAN)), text: failed },
         // its tolerance would be 0.03, but every norm is a NaN
         Known { words: nan(f64::NAN, None), text: failed },
-        Known { words: nan(1e-3, None), text: "+E 2 3FB999999999999A 1 0 1 3 1 1\n" },
+        Known { words: nan(1e-3, None), text: "+E 2 3FB999999999999A 1 0 1 3 1 1 0\n" },
     ]
 }
 
@@ -235,22 +235,22 @@ fn steps() -> Vec<Known> {
     long.rtol = Tolerance::Vector(vec![1e-3, -1.0]);
     vec![
         // as the greatest step: one step to the end
-        Known { words: with(None, None, Some(f64::NAN), 9), text: "+E 0 3FF0000000000000 1 1 0 2 1 1\n" },
+        Known { words: with(None, None, Some(f64::NAN), 9), text: "+E 0 3FF0000000000000 1 1 0 2 1 1 0\n" },
         // 2^-1022
-        Known { words: with(Some(f64::NAN), None, Some(0.5), 1), text: "+E 2 0010000000000000 1 1 0 2 1 1\n" },
+        Known { words: with(Some(f64::NAN), None, Some(0.5), 1), text: "+E 2 0010000000000000 1 1 0 2 1 1 0\n" },
         // rescaled by 0 and then by infinity: the prediction is a NaN
         Known {
             words: with(Some(0.0), Some(0.5), Some(0.5), 1),
-            text: "+D 3FE0000000000000 7FF8000000000000\nJ 3FE0000000000000 7FF8000000000000\nE 2 3FD0000000000000 1 0 1 5 2 1\n",
+            text: "+D 3FE0000000000000 7FF8000000000000\nJ 3FE0000000000000 7FF8000000000000\nE 2 3FD0000000000000 1 0 1 5 2 1 0\n",
         },
         // rescaled twice an attempt, so factored at each, and the steps are the lower limit's
-        Known { words: with(Some(0.25), Some(0.5), Some(0.25), 9), text: "+E 0 3FE0000000000000 2 2 0 3 1 2\n" },
+        Known { words: with(Some(0.25), Some(0.5), Some(0.25), 9), text: "+E 0 3FE0000000000000 2 2 0 3 1 2 0\n" },
         Known {
             words: linear(&scale_0, -1.0),
-            text: "D 0000000000000000 0000000000000000\nJ 0000000000000000 0000000000000000\nD 7FF8000000000000 7FF8000000000000\nI 0000000000000000 0000000000000000\nD 3FF0000000000000 0000000000000000\nS 0000000000000000 3FF0000000000000 0000000000000000 3FF0000000000000 0000000000000000 0000000000000000 0000000000000000 0000000000000000 0000000000000000 0000000000000000 0000000000000000 3FF0000000000000\nE 0 3FF0000000000000 1 1 0 2 1 1\n",
+            text: "D 0000000000000000 0000000000000000\nJ 0000000000000000 0000000000000000\nD 7FF8000000000000 7FF8000000000000\nI 0000000000000000 0000000000000000\nD 3FF0000000000000 0000000000000000\nS 0000000000000000 3FF0000000000000 0000000000000000 3FF0000000000000 0000000000000000 0000000000000000 0000000000000000 0000000000000000 0000000000000000 0000000000000000 0000000000000000 3FF0000000000000\nE 0 3FF0000000000000 1 1 0 2 1 1 1\n",
         },
         // a second entry, below 0, that no component has: document 01 lets it stand, the Rust would panic
-        Known { words: linear(&long, 0.0), text: "+E 2 3FE0000000000000 1 1 0 2 1 1\n" },
+        Known { words: linear(&long, 0.0), text: "+E 2 3FE0000000000000 1 1 0 2 1 1 0\n" },
     ]
 }
 
@@ -270,7 +270,7 @@ fn order() -> Vec<Known> {
     eighth.atol = Tolerance::Scalar(0.1);
     vec![
         // the factors are 0, NaN, NaN: the order rises to 2, and the step's factor is 0
-        Known { words: played(&brink, overflow), text: "+J 4000000000000000 7FF0000000000000\nE 3 0000000000000000 2 2 0 4 2 1\n" },
-        Known { words: linear(&eighth, -1.0), text: "+J 3FD0000000000000 3FE9299AE38D5FA4\nE 2 3FF4000000000000 2 2 0 5 2 1\n" },
+        Known { words: played(&brink, overflow), text: "+J 4000000000000000 7FF0000000000000\nE 3 0000000000000000 2 2 0 4 2 1 0\n" },
+        Known { words: linear(&eighth, -1.0), text: "+J 3FD0000000000000 3FE9299AE38D5FA4\nE 2 3FF4000000000000 2 2 0 5 2 1 0\n" },
     ]
 }

@@ -109,6 +109,7 @@ fn fresh(n: usize, limits: Limits, span: Span, x: f64) -> Progress
             ode: 0,
             jac: 0,
             lu: 0,
+            start: 0,
         },
         steps: Steps {
             total: 0,

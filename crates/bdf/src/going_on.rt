@@ -99,6 +99,9 @@ fn counters_damaged(p: Progress) -> bool
     if derivatives < p.evals.ode {
         return true;
     }
+    if 1 < p.evals.start {
+        return true;
+    }
     false
 }
 

@@ -38,7 +38,7 @@ ghost use mathlib.Core.List.{List};
 ghost use Prim.Native.Nat.{ℕ, _+_, _*_, _≤_, _<_};
 ghost use lib.ListN.{length};
 ghost use Rattle.matrix.specs.Size.{maxN};
-ghost use Rattle.rules.specs.laws.Ready.{Room, Sane, Ready, Awake, Enough, Answered};
+ghost use Rattle.rules.specs.laws.Ready.{Room, Ready, Awake, Enough, Answered};
 ghost use Rattle.rules.specs.State.{left, after};
 ghost use Rattle.bdf.specs.Core.{whole, bare, tried, spoken, plainly, leftOver, resumed, Prepared, Resumable, restartPlace};
 ghost use Rattle.rules.specs.Reply.{askDerivative, askJacobian, firstDifference, differences as differencesOf, started, hinitAsks, firstStep, hinitReplied, modified as modifiedOf, restarted as restartedOf, jacobianStored, outdated as outdatedOf, chosen as chosenOf, ordered as orderedOf, stepped as steppedOf, failedTurn, startNoticed, stepNoticed, firstDerivative, firstJacobian, restartJacobian, stepJacobian, orderJacobian, replied as repliedOf};
@@ -103,7 +103,9 @@ fn hinit_asks(ws: &mut [f64], q: &mut [f64], p: Core) -> Outcome
     let h = guess(ws, p.n, p.span.hmax, p.span.direction);
     euler(ws, p.n, h);
     tell(q, ws, p.n, Y1);
-    says(Answer::Derivative(p.x + h), Awaited::StartDerivative, p)
+    let mut r = p;
+    r.evals.start = 1;
+    says(Answer::Derivative(p.x + h), Awaited::StartDerivative, r)
 }
 
 fn first_step(ws: &mut [f64], q: &mut [f64], p: Core) -> Outcome

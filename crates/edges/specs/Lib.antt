@@ -1,2 +1,3 @@
 -- What the contracts of this program cite.
+pub mod Forgeries
 pub mod Reach

@@ -2,6 +2,7 @@
 ghost use mathlib.Core.Path.{_≡_};
 ghost use Prim.Native.Nat.{_*_, _≤_, _<_};
 ghost use lib.ListN.{length};
+ghost use Rattle.edges.specs.Forgeries.{forgeryCount};
 use crate::forge;
 use crate::forge::FORGERIES;
 use crate::say;
@@ -24,6 +25,7 @@ pub(crate) struct Case {
     pub slope: f64,
     pub tolerance: f64,
     pub modifies: bool,
+    pub settings: BDF,
 }
 
 // ---- the run
@@ -47,7 +49,7 @@ fn ended(
     c: Case,
     forgeries: usize,
 ) -> Place
-    requires { ⌜ (c .n ≤ 32) × (forgeries ≤ 23) ⌝ }
+    requires { ⌜ (c .n ≤ 32) × (forgeries ≤ forgeryCount) ⌝ }
 {
     let last = driven(tally, c, forgeries);
     let run = last.run;
@@ -58,7 +60,7 @@ fn ended(
 
 // In slices that are just long enough.
 fn driven(tally: &mut [u64], c: Case, forgeries: usize) -> Turn
-    requires { ⌜ (c .n ≤ 32) × (forgeries ≤ 23) ⌝ }
+    requires { ⌜ (c .n ≤ 32) × (forgeries ≤ forgeryCount) ⌝ }
 {
     let mut ws = [0.0f64; 3104];
     let mut q = [0.0f64; 256];
@@ -77,13 +79,14 @@ fn need(n: usize) -> usize
 
 // A run from its beginning.
 fn within(tally: &mut [u64], c: Case, forgeries: usize, ws: &mut [f64], q: &mut [f64]) -> Turn
-    requires { ⌜ (c .n ≤ 32) × ((forgeries ≤ 23) × (8 * c .n ≤ length (now q))) ⌝ }
+    requires { ⌜ (c .n ≤ 32) × ((forgeries ≤ forgeryCount) × (8 * c .n ≤ length (now q))) ⌝ }
 {
     let y = [1.0f64; 32];
     let n = c.n;
     let tolerance = Tolerance::Scalar(c.tolerance);
+    let settings = c.settings;
     let first = begin(
-        BDF::new(),
+        settings,
         0.0,
         &y[..n],
         10.0,
@@ -106,7 +109,7 @@ fn to_end(
     ws: &mut [f64],
     q: &mut [f64],
 ) -> Turn
-    requires { ⌜ (c .n ≤ 32) × ((forgeries ≤ 23) × (8 * c .n ≤ length (now q))) ⌝ }
+    requires { ⌜ (c .n ≤ 32) × ((forgeries ≤ forgeryCount) × (8 * c .n ≤ length (now q))) ⌝ }
 {
     let last = turns(tally, first, c, forgeries, ws, q);
     swept(tally, last, forgeries, ws, q);
@@ -123,7 +126,7 @@ fn turns(
     ws: &mut [f64],
     q: &mut [f64],
 ) -> Turn
-    requires { ⌜ (c .n ≤ 32) × ((forgeries ≤ 23) × (8 * c .n ≤ length (now q))) ⌝ }
+    requires { ⌜ (c .n ≤ 32) × ((forgeries ≤ forgeryCount) × (8 * c .n ≤ length (now q))) ⌝ }
 {
     let mut values = [0.0f64; 1024];
     let mut turn = first;
@@ -146,7 +149,7 @@ fn next(
     ws: &mut [f64],
     q: &mut [f64],
 ) -> Turn
-    requires { ⌜ (c .n ≤ 32) × ((forgeries ≤ 23) × ((length (now values) ≡ 1024) × (8 * c .n ≤ length (now q)))) ⌝ }
+    requires { ⌜ (c .n ≤ 32) × ((forgeries ≤ forgeryCount) × ((length (now values) ≡ 1024) × (8 * c .n ≤ length (now q)))) ⌝ }
 {
     let answer = said.answer;
     let run = swept(tally, said, forgeries, ws, q);
@@ -250,7 +253,7 @@ fn diagonal(values: &mut [f64], n: usize, first: f64)
 
 // The state with which the run goes on, once every forged one was tried on it: beyond each bound, then at it.
 fn swept(tally: &mut [u64], turn: Turn, forgeries: usize, ws: &mut [f64], q: &mut [f64]) -> Run
-    requires { ⌜ forgeries ≤ 23 ⌝ }
+    requires { ⌜ forgeries ≤ forgeryCount ⌝ }
 {
     let answer = turn.answer;
     let reply = unsuited(answer);
@@ -270,7 +273,7 @@ fn tried(
     ws: &mut [f64],
     q: &mut [f64],
 ) -> Run
-    requires { ⌜ (k < 23) × (by ≤ 1) ⌝ }
+    requires { ⌜ (k < forgeryCount) × (by ≤ 1) ⌝ }
 {
     let f = forge::numbered(k);
     let expected = forge::expected(f, by, run);

@@ -49,6 +49,7 @@ pub(crate) fn uncounted(p: Progress) -> Progress {
         ode: 0,
         jac: 0,
         lu: 0,
+        start: 0,
     };
     let mut r = p;
     r.steps = steps;
@@ -96,6 +97,12 @@ pub(crate) fn jacobians(p: Progress, jac: usize) -> Progress {
 pub(crate) fn derived(p: Progress, ode: usize) -> Progress {
     let mut r = p;
     r.evals.ode = ode;
+    r
+}
+
+pub(crate) fn started(p: Progress, start: usize) -> Progress {
+    let mut r = p;
+    r.evals.start = start;
     r
 }
 

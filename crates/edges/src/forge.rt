@@ -1,4 +1,4 @@
-// Forged states: a run's state with one of 01's bounds crossed by one (`by` is 1), or just met (`by` is 0).
+// Forged states: a run's state with one of the bounds of damage crossed by one (`by` is 1), or just met (`by` is 0).
 // A state crosses no other bound besides: what the change itself would break is changed with it. So no damage hides another;
 // but for a Newton limit of 0 while a Newton derivative is awaited, where no count is below it.
 ghost use Prim.Native.Nat.{_≤_};
@@ -27,6 +27,7 @@ pub(crate) enum Forgery {
     Factorings,
     Jacobians,
     Derivatives,
+    Start,
     NewtonCount,
     AcceptedMax,
     RejectedMax,
@@ -36,7 +37,7 @@ pub(crate) enum Forgery {
     Nothing,
 }
 
-pub(crate) const FORGERIES: usize = 23;
+pub(crate) const FORGERIES: usize = 24;
 
 pub(crate) fn numbered(k: usize) -> Forgery {
     match k {
@@ -56,12 +57,13 @@ pub(crate) fn numbered(k: usize) -> Forgery {
         13 => Forgery::Factorings,
         14 => Forgery::Jacobians,
         15 => Forgery::Derivatives,
-        16 => Forgery::NewtonCount,
-        17 => Forgery::AcceptedMax,
-        18 => Forgery::RejectedMax,
-        19 => Forgery::OtherCount,
-        20 => Forgery::LastPivot,
-        21 => Forgery::NotNumbers,
+        16 => Forgery::Start,
+        17 => Forgery::NewtonCount,
+        18 => Forgery::AcceptedMax,
+        19 => Forgery::RejectedMax,
+        20 => Forgery::OtherCount,
+        21 => Forgery::LastPivot,
+        22 => Forgery::NotNumbers,
         _ => Forgery::Nothing,
     }
 }
@@ -213,6 +215,7 @@ fn evaluated(f: Forgery, by: usize, p: Progress) -> Progress {
         Forgery::Factorings => fields::factored(p, beyond(p.steps.total, by)),
         Forgery::Jacobians => fields::jacobians(p, beyond(beyond(p.steps.total, 2), by)),
         Forgery::Derivatives => fields::derived(p, beyond(most_derivatives(p), by)),
+        Forgery::Start => fields::started(p, beyond(1, by)),
         _ => p,
     }
 }

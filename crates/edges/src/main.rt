@@ -10,25 +10,27 @@ mod tally;
 
 ghost use Prim.Native.Nat.{_≤_};
 use drive::Case;
+use rules::settings::BDF;
+use rules::types::Setting;
 use text::Place;
 
 const CASES: usize = 5;
 
-// From small to full size; one run with Jacobians that are wrong, so that Newton fails, and one whose notices are now and
-// then answered by a modification.
+// From small to full size; one run with Jacobians that are wrong, so that Newton fails, one whose notices are now and then answered by
+// a modification, and one whose first step is given.
 fn case(k: usize) -> Case
     ensures { λ r. ⌜ r .n ≤ 32 ⌝ }
 {
     match k {
-        0 => system(1, 1.0, 1.0, 1e-12, false),
-        1 => system(2, 50.0, 1.0, 1e-9, true),
-        2 => system(2, 4.0, -1.0, 1e-5, false),
-        3 => system(4, 3.0, 1.0, 1e-11, false),
-        _ => system(32, 2.0, 1.0, 1e-2, false),
+        0 => system(1, 1.0, 1.0, 1e-12, false, BDF::new()),
+        1 => system(2, 50.0, 1.0, 1e-9, true, BDF::new()),
+        2 => system(2, 4.0, -1.0, 1e-5, false, BDF::new()),
+        3 => system(4, 3.0, 1.0, 1e-11, false, given(1e-4)),
+        _ => system(32, 2.0, 1.0, 1e-2, false, BDF::new()),
     }
 }
 
-fn system(n: usize, rate: f64, slope: f64, tolerance: f64, modifies: bool) -> Case
+fn system(n: usize, rate: f64, slope: f64, tolerance: f64, modifies: bool, settings: BDF) -> Case
     requires { ⌜ n ≤ 32 ⌝ }
     ensures { λ r. ⌜ r .n ≤ 32 ⌝ }
 {
@@ -38,6 +40,19 @@ fn system(n: usize, rate: f64, slope: f64, tolerance: f64, modifies: bool) -> Ca
         slope,
         tolerance,
         modifies,
+        settings,
+    }
+}
+
+// The Rust's settings but for the first step.
+fn given(h: f64) -> BDF {
+    BDF {
+        max_steps: 100000,
+        max_step: Setting::Unset,
+        min_step: Setting::Unset,
+        newton_maxiter: 4,
+        newton_tol: Setting::Unset,
+        first_step: Setting::Given(h),
     }
 }
 

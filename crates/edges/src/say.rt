@@ -48,7 +48,7 @@ pub(crate) fn refusal(a: Answer) -> u64 {
     }
 }
 
-// The end of a run: status, h, total, accepted, rejected, ode, jac, lu. What is no end is said by its letter.
+// The end of a run: status, h, total, accepted, rejected, ode, jac, lu, start. What is no end is said by its letter.
 pub(crate) fn end(out: &mut [u8], place: Place, a: Answer, at: Progress) -> Place {
     let p = answer(out, place, a);
     match a {
@@ -83,6 +83,7 @@ fn counters(out: &mut [u8], place: Place, at: Progress) -> Place {
         at.evals.ode,
         at.evals.jac,
         at.evals.lu,
+        at.evals.start,
     ];
     each(out, place, &all)
 }

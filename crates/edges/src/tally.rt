@@ -1,5 +1,6 @@
 // What was counted, and its lines: how often each forgery was tried, how often answered rightly, how many slices changed.
 ghost use Prim.Native.Nat.{_≤_, _<_};
+ghost use Rattle.edges.specs.Forgeries.{forgeryCount};
 use crate::forge;
 use crate::forge::FORGERIES;
 use crate::names;
@@ -61,7 +62,7 @@ pub(crate) fn places(out: &mut [u8], place: Place, tally: &[u64]) -> Place {
 }
 
 fn counted(out: &mut [u8], place: Place, tally: &[u64], k: usize) -> Place
-    requires { ⌜ k < 23 ⌝ }
+    requires { ⌜ k < forgeryCount ⌝ }
 {
     let name = names::name(out, place, k);
     let at = 6 * k;
@@ -87,7 +88,7 @@ fn share(out: &mut [u8], place: Place, s: &[u8], right: u64, tried: u64) -> Plac
 }
 
 fn total(sums: &mut [u64], tally: &[u64], k: usize)
-    requires { ⌜ k < 23 ⌝ }
+    requires { ⌜ k < forgeryCount ⌝ }
 {
     for i in 0..6 {
         add(sums, i, of(tally, 6 * k + i));

@@ -41,7 +41,7 @@ abbrev pub stepsFields : Steps → List (List ℕ)
 stepsFields steps = decimal (steps .total) ∷ decimal (steps .accepted) ∷ decimal (steps .rejected) ∷ []
 
 abbrev pub evalsFields : Evals → List (List ℕ)
-evalsFields evals = decimal (evals .ode) ∷ decimal (evals .jac) ∷ decimal (evals .lu) ∷ []
+evalsFields evals = decimal (evals .ode) ∷ decimal (evals .jac) ∷ decimal (evals .lu) ∷ decimal (evals .start) ∷ []
 
 -- the status by its number, h, and the counters
 abbrev pub endFields : Status → Float → Steps → Evals → List (List ℕ)

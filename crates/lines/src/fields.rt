@@ -2,7 +2,7 @@
 ghost use mathlib.Core.Path.{_≡_};
 ghost use mathlib.Core.List.{[], _∷_};
 ghost use Rattle.text.specs.Digits.{decimal, hexadecimal};
-ghost use Rattle.lines.specs.Lines.{hexes, statusFields, stepsFields, evalsFields, endFields};
+ghost use Rattle.lines.specs.Lines.{hexes, statusFields, endFields};
 ghost use Rattle.lines.specs.Fields.{putsFields, putsLine};
 use crate::numbers;
 use rules::types::Evals;
@@ -33,7 +33,8 @@ pub(crate) fn end(
     let how = ended(out, e, status, h);
     let done = counted(out, how, steps.total, steps.accepted, steps.rejected);
     let asked = counted(out, done, evals.ode, evals.jac, evals.lu);
-    text::put_byte(out, asked, b'\n')
+    let started = count(out, asked, evals.start as u64);
+    text::put_byte(out, started, b'\n')
 }
 
 pub(crate) fn refusal(out: &mut [u8], place: Place, number: u64) -> Place

@@ -2,7 +2,6 @@
 ghost use mathlib.Core.Path.{_≡_};
 ghost use mathlib.Core.List.{_∷_};
 ghost use Prim.Native.Nat.{_+_, _*_, _≤_};
-ghost use lib.ListN.{length};
 ghost use Rattle.text.specs.Digits.{placesOf};
 ghost use Rattle.text.specs.Page.{puts};
 ghost use Rattle.lines.specs.Lines.{line, hexes, startLine, stepLine, endLine, refusalLine};
@@ -102,13 +101,13 @@ fn has_room_for_state(place: Place, len: usize, n: usize) -> bool
     }
 }
 
-// Letter, status, h and the line's end are 21 bytes; then the six counters.
+// Letter, status, h and the line's end are 21 bytes; then the seven counters.
 fn end_length(steps: Steps, evals: Evals) -> usize
-    ensures { λ r. ⌜ r ≡ 21 + (3 + placesOf (steps .total) + placesOf (steps .accepted) + placesOf (steps .rejected)) + (3 + placesOf (evals .ode) + placesOf (evals .jac) + placesOf (evals .lu)) ⌝ }
+    ensures { λ r. ⌜ r ≡ 21 + (3 + placesOf (steps .total) + placesOf (steps .accepted) + placesOf (steps .rejected)) + (4 + placesOf (evals .ode) + placesOf (evals .jac) + placesOf (evals .lu) + placesOf (evals .start)) ⌝ }
 {
     let of_steps = three(steps.total, steps.accepted, steps.rejected);
     let of_evals = three(evals.ode, evals.jac, evals.lu);
-    21 + of_steps + of_evals
+    21 + of_steps + of_evals + 1 + places(evals.start as u64)
 }
 
 // Three counts, each after a space.

@@ -99,6 +99,7 @@ fn end(out: &mut [u8], place: Place, status: Status, h: f64, at: Progress) -> Pl
         at.evals.ode,
         at.evals.jac,
         at.evals.lu,
+        at.evals.start,
     ];
     fields::counts(out, last, &counts)
 }

@@ -64,7 +64,7 @@ fresh n limits span x =
       n = n;
       limits = limits;
       span = span;
-      evals = record { ode = 0; jac = 0; lu = 0 };
+      evals = record { ode = 0; jac = 0; lu = 0; start = 0 };
       steps = record { total = 0; accepted = 0; rejected = 0 };
       order = 1;
       x = x;

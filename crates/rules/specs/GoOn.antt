@@ -18,7 +18,7 @@ use Rattle.rules.specs.Reply.{replied}
 use Rattle.rules.specs.declared.stages.Check.{Check}
 use Rattle.rules.specs.declared.stages.Check.the-variants.{Refuse, Passed}
 
--- ---- damage, exactly 01's list
+-- ---- damage, exactly 01's list as 02 §6 amends it
 
 -- one of the first n - 1 pivots at or above n
 unfoldable pub pivotTurn : ℕ → List ℕ → ℕ → Bool → Bool
@@ -36,14 +36,15 @@ limitsDamaged p =
 unfoldable pub stepsDamaged : Progress → Bool
 stepsDamaged p = ltb (p .limits .steps) (p .steps .total) || ltb (p .steps .total) (p .steps .accepted + p .steps .rejected)
 
--- besides: equal steps above A; factorings above T; Jacobians above 2 + T; derivatives above 2 + m T + A
+-- besides: equal steps above A; factorings above T; Jacobians above 2 + T; derivatives above 2 + m T + A; `start` above 1
 unfoldable pub countersDamaged : Progress → Bool
 countersDamaged p =
     stepsDamaged p ||
     (ltb (p .steps .accepted) (p .pace .«equal_steps») ||
     (ltb (p .steps .total) (p .evals .lu) ||
     (ltb (2 + p .steps .total) (p .evals .jac) ||
-    ltb (2 + p .limits .newton * p .steps .total + p .steps .accepted) (p .evals .ode))))
+    (ltb (2 + p .limits .newton * p .steps .total + p .steps .accepted) (p .evals .ode) ||
+    ltb 1 (p .evals .start)))))
 
 -- for n above 0
 unfoldable pub damagedAbove0 : Awaited → Progress → Bool

@@ -64,7 +64,7 @@ abbrev pub isUnset : Setting → Bool
 isUnset Unset = true
 isUnset (Given h) = false
 
--- 1 where it was asked: `first_step` is unset, n is above 0, and the history has come that far, past the first derivative and
--- the first Jacobian
-unfoldable pub hidden : Configuration → List Answer → ℕ
-hidden c h = if isUnset (c .settings .«first_step») && (ltb 0 (length (c .y0)) && ltb 2 (length h)) then 1 else 0
+-- 1 where it was asked, else 0: `first_step` is unset, n is above 0, and the history has come past its first two questions, the first
+-- derivative and the first Jacobian
+unfoldable pub automaticStart : Configuration → List Answer → ℕ
+automaticStart c h = if isUnset (c .settings .«first_step») && (ltb 0 (length (c .y0)) && ltb 2 (length h)) then 1 else 0

@@ -13,7 +13,7 @@ use Rattle.loops.specs.Arithmetic.{_⊕_, _⊖_, _⊗_, +0}
 use Rattle.rules.specs.Literals.{minPositive}
 use Rattle.rules.specs.Places.{d, y, f0, f1, y1, row, get, put}
 use Rattle.rules.specs.Moves.{copied, filled, loaded}
-use Rattle.rules.specs.State.{withPace, withX, withOrder, changed, turn, ode+1, jac+1, After, after, Left, left}
+use Rattle.rules.specs.State.{withPace, withX, withOrder, changed, turn, ode+1, jac+1, startAsked, After, after, Left, left}
 use Rattle.rules.specs.Starting.{guess, euler, hinit, withinSpan}
 use Rattle.rules.specs.Order.{errM, errP, choiceOf}
 use Rattle.rules.specs.Attempt.{rescaledD, told, end, halved, onward, mainLoop}
@@ -55,18 +55,18 @@ started p hAbs ws q =
     let w = differences (p .n) h (p .span .direction) ws in
     after (turn (Start (p .x)) StartNotice (withPace p (changed h))) w (told (p .n) y w q)
 
--- the derivative that hinit asks
+-- the derivative that hinit asks: `start` shows it from here on
 unfoldable pub hinitAsks : Progress → List Float → List Float → After Turn
 hinitAsks p ws q =
     let h = guess (p .n) (p .span .hmax) (p .span .direction) ws in
     let w = euler (p .n) h ws in
-    after (turn (Derivative (p .x ⊕ h)) StartDerivative p) w (told (p .n) y1 w q)
+    after (turn (Derivative (p .x ⊕ h)) StartDerivative (startAsked p)) w (told (p .n) y1 w q)
 
 unfoldable pub firstStep : Progress → Setting → List Float → List Float → After Turn
 firstStep p Unset ws q = hinitAsks p ws q
 firstStep p (Given h) ws q = started p (absOf h) ws q
 
--- no counter shows this derivative
+-- `ode` does not count this derivative
 unfoldable pub hinitReplied : Progress → List Float → List Float → List Float → After Turn
 hinitReplied p values ws q =
     let w = loaded values 0 (row (p .n) f1) (p .n) ws in

@@ -129,13 +129,17 @@ withOrder p order =
 
 -- ---- the counters
 abbrev pub ode+1 : Progress → Progress
-ode+1 p = withEvals p (record { ode = p .evals .ode + 1; jac = p .evals .jac; lu = p .evals .lu })
+ode+1 p = withEvals p (record { ode = p .evals .ode + 1; jac = p .evals .jac; lu = p .evals .lu; start = p .evals .start })
 
 abbrev pub jac+1 : Progress → Progress
-jac+1 p = withEvals p (record { ode = p .evals .ode; jac = p .evals .jac + 1; lu = p .evals .lu })
+jac+1 p = withEvals p (record { ode = p .evals .ode; jac = p .evals .jac + 1; lu = p .evals .lu; start = p .evals .start })
 
 abbrev pub lu+1 : Progress → Progress
-lu+1 p = withEvals p (record { ode = p .evals .ode; jac = p .evals .jac; lu = p .evals .lu + 1 })
+lu+1 p = withEvals p (record { ode = p .evals .ode; jac = p .evals .jac; lu = p .evals .lu + 1; start = p .evals .start })
+
+-- the automatic start has asked its derivative, once in a run
+abbrev pub startAsked : Progress → Progress
+startAsked p = withEvals p (record { ode = p .evals .ode; jac = p .evals .jac; lu = p .evals .lu; start = 1 })
 
 abbrev pub total+1 : Progress → Progress
 total+1 p = withSteps p (record { total = p .steps .total + 1; accepted = p .steps .accepted; rejected = p .steps .rejected })

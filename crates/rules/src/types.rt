@@ -138,10 +138,12 @@ pub struct Span {
     pub first_step: Setting,
 }
 
+// As in the Rust, and beside it `start`: 1 once the automatic start has asked its derivative, which `ode` does not count.
 pub struct Evals {
     pub ode: usize,
     pub jac: usize,
     pub lu: usize,
+    pub start: usize,
 }
 
 impl Evals {
@@ -153,6 +155,7 @@ impl Evals {
             ode: 0,
             jac: 0,
             lu: 0,
+            start: 0,
         }
     }
 }

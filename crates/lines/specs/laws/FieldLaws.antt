@@ -106,7 +106,7 @@ length-three a b c fs = omega (arith, length-count a (decimal b ∷ decimal c �
 
 pub length-end : (status : Status) (h : Float) (steps : Steps) (evals : Evals)
     → length (endLine status h steps evals)
-    ≡ 21 + (3 + placesOf (steps .total) + placesOf (steps .accepted) + placesOf (steps .rejected)) + (3 + placesOf (evals .ode) + placesOf (evals .jac) + placesOf (evals .lu))
+    ≡ 21 + (3 + placesOf (steps .total) + placesOf (steps .accepted) + placesOf (steps .rejected)) + (4 + placesOf (evals .ode) + placesOf (evals .jac) + placesOf (evals .lu) + placesOf (evals .start))
 length-end status h steps evals =
     let of-line = length-line 69 (endFields status h steps evals) in
     let of-status = length-count (statusOf status) (hexadecimal h ∷ (stepsFields steps ++ evalsFields evals)) in
@@ -114,6 +114,7 @@ length-end status h steps evals =
     let of-h = length-spaced (hexadecimal h) (stepsFields steps ++ evalsFields evals) in
     let sixteen = length-spelled 16 16 (toBits binary64 h) in
     let of-steps = length-three (steps .total) (steps .accepted) (steps .rejected) (evalsFields evals) in
-    let of-evals = length-three (evals .ode) (evals .jac) (evals .lu) [] in
+    let of-evals = length-three (evals .ode) (evals .jac) (evals .lu) (decimal (evals .start) ∷ []) in
+    let of-start = length-count (evals .start) [] in
     let none = length-none in
     omega arith

@@ -48,6 +48,7 @@ last-answer-short (End status h) y steps evals e =
     let ode = places-at-most-20 (evals .ode) in
     let jac = places-at-most-20 (evals .jac) in
     let lu = places-at-most-20 (evals .lu) in
+    let start = places-at-most-20 (evals .start) in
     (omega arith, omega arith)
 last-answer-short (Refused why) y steps evals e = refusal-short (numberOf why)
 

@@ -72,10 +72,10 @@ job-of-one-step = 0x04 ∷ 0x00 ∷ 0x00 ∷ 0x42 ∷ 0x00 ∷ doubles
 pub record Computed : Type 0 where
   pub whole :
       printed job ≡
-      bytes "I 0000000000000000 3FF0000000000000\nS 3FE0000000000000 3FF0000000000000\nS 3FF0000000000000 3FF0000000000000\nE 0 3FE0000000000000 2 2 0 3 1 1\n"
+      bytes "I 0000000000000000 3FF0000000000000\nS 3FE0000000000000 3FF0000000000000\nS 3FF0000000000000 3FF0000000000000\nE 0 3FE0000000000000 2 2 0 3 1 1 0\n"
   pub one-step :
       printed job-of-one-step ≡
-      bytes "I 0000000000000000 3FF0000000000000\nS 3FE0000000000000 3FF0000000000000\nE 2 3FE0000000000000 1 1 0 2 1 1\n"
+      bytes "I 0000000000000000 3FF0000000000000\nS 3FE0000000000000 3FF0000000000000\nE 2 3FE0000000000000 1 1 0 2 1 1 0\n"
 
 pub computed : Computed
 unfolding if_then_else_ turns loop absOf signumOf minOf maxOf sqrtOf sizedOf singleOf luDecompOf insideOf dividedOf solvedOf linSolveOf gammas alphas errorConsts copyTurn copied fillTurn filled loadTurn loaded predictedTurn predicted predictTurn predict scaleOf scaleTurn scaled psiSumTurn psiSum psiTurn psied squareOf squareTurn sumOfSquares rhsNorm matrixTurn matrixCells diagonal matrixRow matrix factored residualTurn residual solved correction advanceTurn advanced converged safetyOf weighTurn weighed newestTurn newest addNextTurn addNext summedTurn summed coeff coeffTurn coeffs contTurn prepared acceptedWs toHmax toHmin aimed newtonStart mustFactor refactored predictedAll attemptAt guarded fitted fittedAttempt attempt tries mainLoop stepAccepted errorWs judged iterated newtonReplied jacobianStored firstTurn firstDifference differences started firstStep stepped newtonTurn firstDerivative firstJacobian negative limited tolerancesChecked checked spanOf kept beginWs askFirst beginRun beginOf pivotOutside limitsDamaged stepsDamaged countersDamaged damagedAbove0 damaged goChecked goWithin goOn ofBits ofInt add sub mul div neg eq lt le ne kappa toBits digit spelled placesWithin wordFrom spaced line hexes headBits doublesOf acceptedOf firstStepOf jobOf acceptedRead headRead readOf sumTurn rowSum rightTurn rightOf replied linesFrom printed

@@ -96,6 +96,7 @@ pub record Bounds (p : Progress) : Type 0 where
   pub factors : p .evals .lu ≤ p .steps .total
   pub derived : p .evals .jac ≤ 2 + p .steps .total
   pub evaluated : p .evals .ode ≤ 2 + p .limits .newton * p .steps .total + p .steps .accepted
+  pub start-once : p .evals .start ≤ 1
 
 pub bounds : (p : Progress) → countersDamaged p ≡ false → Bounds p
 unfolding countersDamaged
@@ -103,14 +104,15 @@ bounds p e =
     let past-steps = or-second (stepsDamaged p) _ e in
     let past-equals = or-second (ltb (p .steps .accepted) (p .pace .«equal_steps»)) _ past-steps in
     let past-factors = or-second (ltb (p .steps .total) (p .evals .lu)) _ past-equals in
+    let past-jacobians = or-second (ltb (2 + p .steps .total) (p .evals .jac)) _ past-factors in
+    let most = 2 + p .limits .newton * p .steps .total + p .steps .accepted in
     record {
       steps = stepped p (or-first (stepsDamaged p) _ e);
       equals = ltb-false (p .steps .accepted) (p .pace .«equal_steps») (or-first (ltb (p .steps .accepted) (p .pace .«equal_steps»)) _ past-steps);
       factors = ltb-false (p .steps .total) (p .evals .lu) (or-first (ltb (p .steps .total) (p .evals .lu)) _ past-equals);
       derived = ltb-false (2 + p .steps .total) (p .evals .jac) (or-first (ltb (2 + p .steps .total) (p .evals .jac)) _ past-factors);
-      evaluated =
-          ltb-false (2 + p .limits .newton * p .steps .total + p .steps .accepted) (p .evals .ode)
-          (or-second (ltb (2 + p .steps .total) (p .evals .jac)) _ past-factors);
+      evaluated = ltb-false most (p .evals .ode) (or-first (ltb most (p .evals .ode)) _ past-jacobians);
+      start-once = ltb-false 1 (p .evals .start) (or-second (ltb most (p .evals .ode)) _ past-jacobians);
     }
 
 -- a state with components that is not damaged

@@ -23,7 +23,7 @@ use Rattle.rules.specs.laws.CallLaws.{beginning-cases, going-on-cases}
 use Rattle.rules.specs.promises.RefusalLaws.{refused-call}
 use Rattle.rules.specs.History.{called, Exchange, begins, goes-on, is-refused}
 use Rattle.rules.specs.laws.Standing.{here, Stands, Stays, Tells}
-use Rattle.rules.specs.laws.HistoryLaws.{hidden-early}
+use Rattle.rules.specs.laws.HistoryLaws.{automatic-early}
 use Rattle.rules.specs.laws.PlaceLaws.{replied-leads}
 use Rattle.rules.specs.declared.stages.Check.the-variants.{Passed}
 
@@ -56,7 +56,7 @@ module _ (c : Configuration) where
   unfolding beginRun askFirst kept spanOf
   passed-begins ws q some few e =
       let p = kept (c .settings) (length (c .y0)) (c .x0) (c .xend) (c .rtol) (c .rtols) in
-      let none = hidden-early c (Derivative (c .x0) ∷ []) (omega arith) in
+      let none = automatic-early c (Derivative (c .x0) ∷ []) (omega arith) in
       let stands : Stands c (here p FirstDerivative) p (Derivative (c .x0) ∷ []) = omega arith in
       works
       (record {

@@ -1,4 +1,4 @@
--- What holds of a history whatever it is: the kinds of its answers, and when the hidden derivative was asked.
+-- What holds of a history whatever it is: the kinds of its answers, and when the automatic start's derivative was asked.
 use mathlib.Core.Path.{_≡_, refl}
 use mathlib.Core.List.{List, [], _∷_}
 use mathlib.Core.Bool.{true, false, true≢false}
@@ -12,7 +12,7 @@ use Rattle.loops.specs.laws.ChoiceLaws.{either, when-true, when-false, and-fail
 use Rattle.rules.specs.Types.{Answer, Run, Derivative, Jacobian, Start, Step, End, Refused}
 use Rattle.rules.specs.Answers.{isEnd, isRefused}
 use Rattle.rules.specs.Calls.{Configuration}
-use Rattle.rules.specs.History.{Exchange, begins, goes-on, is-refused, derivatives, jacobians, startNotices, stepNotices, questionsAndNotices, isUnset, hidden}
+use Rattle.rules.specs.History.{Exchange, begins, goes-on, is-refused, derivatives, jacobians, startNotices, stepNotices, questionsAndNotices, isUnset, automaticStart}
 
 -- ---- the kinds
 
@@ -45,27 +45,27 @@ last-taken (begins ws q e) = e
 last-taken (goes-on x call e) = e
 last-taken (is-refused x call e) = last-taken x
 
--- ---- the hidden derivative: decided by the third answer
+-- ---- the automatic start's derivative: decided by the third answer
 
 module _ (c : Configuration) where
-  pub hidden-stays : (a : Answer) (h : List Answer) → 3 - length h ≡ 0 → hidden c (a ∷ h) ≡ hidden c h
-  unfolding hidden
-  hidden-stays a h e = rw (lt-ltb 2 (length h) (omega arith), lt-ltb 2 (length (a ∷ h)) (omega arith))
+  pub automatic-stays : (a : Answer) (h : List Answer) → 3 - length h ≡ 0 → automaticStart c (a ∷ h) ≡ automaticStart c h
+  unfolding automaticStart
+  automatic-stays a h e = rw (lt-ltb 2 (length h) (omega arith), lt-ltb 2 (length (a ∷ h)) (omega arith))
 
-  pub hidden-early : (h : List Answer) → length h ≤ 2 → hidden c h ≡ 0
-  unfolding hidden
-  hidden-early h few =
+  pub automatic-early : (h : List Answer) → length h ≤ 2 → automaticStart c h ≡ 0
+  unfolding automaticStart
+  automatic-early h few =
       when-false 1 0 (and-fails (isUnset (c .settings .«first_step»)) (λ _. and-fails (ltb 0 (length (c .y0))) (λ _. le-ltb 2 (length h) few)))
 
-  pub hidden-given : (h : List Answer) → isUnset (c .settings .«first_step») ≡ false → hidden c h ≡ 0
-  unfolding hidden if_then_else_
-  hidden-given h given = rw given
+  pub automatic-given : (h : List Answer) → isUnset (c .settings .«first_step») ≡ false → automaticStart c h ≡ 0
+  unfolding automaticStart if_then_else_
+  automatic-given h given = rw given
 
-  pub hidden-asked : (h : List Answer) → isUnset (c .settings .«first_step») ≡ true → 1 ≤ length (c .y0) → 3 ≤ length h → hidden c h ≡ 1
-  unfolding hidden
-  hidden-asked h unset some far =
+  pub automatic-asked : (h : List Answer) → isUnset (c .settings .«first_step») ≡ true → 1 ≤ length (c .y0) → 3 ≤ length h → automaticStart c h ≡ 1
+  unfolding automaticStart
+  automatic-asked h unset some far =
       when-true 1 0 (and-passes unset (and-passes (lt-ltb 0 (length (c .y0)) some) (lt-ltb 2 (length h) (omega arith))))
 
-  pub hidden-once : (h : List Answer) → hidden c h ≤ 1
-  unfolding hidden
-  hidden-once h = either (λ (k : ℕ). k ≤ 1) _ (λ _. omega arith) (λ _. omega arith)
+  pub automatic-once : (h : List Answer) → automaticStart c h ≤ 1
+  unfolding automaticStart
+  automatic-once h = either (λ (k : ℕ). k ≤ 1) _ (λ _. omega arith) (λ _. omega arith)

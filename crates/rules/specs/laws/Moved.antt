@@ -7,8 +7,8 @@ use lib.Ieee.{Float}
 use Rattle.rules.specs.Types.{Progress}
 use Rattle.rules.specs.Factor.{factored}
 
--- n and the limits stay; each counter is so many higher, the factorings at most so many; the order is now this one; and of
--- equal steps there are at most as many more as were accepted
+-- n, the limits and `start` stay; each other counter is so many higher, the factorings at most so many; the order is now this one;
+-- and of equal steps there are at most as many more as were accepted
 pub record Counts (p r : Progress) (ode jac lu total accepted rejected order : ℕ) : Type 0 where
   pub same-n : r .n ≡ p .n
   pub same-steps : r .limits .steps ≡ p .limits .steps
@@ -16,6 +16,7 @@ pub record Counts (p r : Progress) (ode jac lu total accepted rejected order : �
   pub derivatives : r .evals .ode ≡ p .evals .ode + ode
   pub jacobians : r .evals .jac ≡ p .evals .jac + jac
   pub factorings : r .evals .lu ≤ p .evals .lu + lu
+  pub same-start : r .evals .start ≡ p .evals .start
   pub attempts : r .steps .total ≡ p .steps .total + total
   pub accepts : r .steps .accepted ≡ p .steps .accepted + accepted
   pub rejects : r .steps .rejected ≡ p .steps .rejected + rejected

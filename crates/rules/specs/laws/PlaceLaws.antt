@@ -1,16 +1,15 @@
 -- Every reply keeps how the counters stand: place by place, read off the definition, whatever the floats are.
-use mathlib.Core.Path.{_≡_, refl, sym, _∙_}
+use mathlib.Core.Path.{_≡_, refl}
 use mathlib.Core.List.{List, _∷_}
-use mathlib.Core.Bool.{Bool, true, false, true≢false, false≢true}
+use mathlib.Core.Bool.{Bool, true, false, false≢true}
 use Prim.Native.Nat.{ℕ, _+_, _-_, _≤_, _<_}
 use native.Mathlib.Omega.{arith}
 use borrow.Author.Tests.{leb-false, ltb-true}
 use lib.ListN.{length}
 use lib.Ieee.{Float}
-use Rattle.loops.specs.Choice.{if_then_else_}
 use Rattle.loops.specs.laws.ChoiceLaws.{either}
 use Rattle.rules.specs.Types.{Progress, Awaited, Answer, Turn, Reply, Setting, Unset, Given, Values, Continue, Interrupt, Modified, Derivative, Jacobian, Start, FirstDerivative, FirstJacobian, StartDerivative, StartNotice, ModifiedStartDerivative, ModifiedStartJacobian, NewtonDerivative, FailedJacobian, StepNotice, ModifiedStepDerivative, ModifiedStepJacobian, OrderJacobian, Ended}
-use Rattle.rules.specs.State.{ode+1, jac+1, After, after}
+use Rattle.rules.specs.State.{ode+1, jac+1, After}
 use Rattle.rules.specs.Newton.{tooSlow, gaveUp}
 use Rattle.rules.specs.laws.OrderLaws.{choice-within}
 use Rattle.rules.specs.Attempt.{halved, Tried, rejected, says, onward, mainLoop}
@@ -18,7 +17,8 @@ use Rattle.rules.specs.Step.{errorRejected, stepAccepted, judged, newton
 use Rattle.rules.specs.Reply.{jacobianStored, started, hinitAsks, firstStep, hinitReplied, modified, restarted, outdated, chosen, ordered, stepped, newtonTurn, failedTurn, firstDerivative, firstJacobian, restartJacobian, stepJacobian, orderJacobian, startNoticed, stepNoticed, replied}
 use Rattle.rules.specs.laws.PassedLaws.{or-second}
 use Rattle.rules.specs.Calls.{Configuration}
-use Rattle.rules.specs.laws.HistoryLaws.{hidden-early, hidden-given, hidden-asked}
+use Rattle.rules.specs.History.{automaticStart}
+use Rattle.rules.specs.laws.HistoryLaws.{automatic-early, automatic-given, automatic-asked}
 use Rattle.rules.specs.laws.Standing.{here, still, Stands, Stays, Next}
 use Rattle.rules.specs.laws.StandingLaws.{stays-with, derivative-asked, jacobian-asked, start-told, step-told, end-told, next-later, loop-next}
 use Rattle.rules.specs.declared.stages.Choice.{Choice}
@@ -34,28 +34,29 @@ module _ (c : Configuration) where
     first-derivative-leads : (ws q : List Float) → Stands c (here p FirstDerivative) p h → Leads p h (firstDerivative p values ws q)
     unfolding firstDerivative
     first-derivative-leads ws q i =
-        let none = hidden-early c h (omega arith) in
-        let none-yet = hidden-early c (Jacobian (p .x) ∷ h) (omega arith) in
+        let none = automatic-early c h (omega arith) in
+        let none-yet = automatic-early c (Jacobian (p .x) ∷ h) (omega arith) in
         record { stays = stays-with p; stands = omega arith; tells = record { ended = refl; quiet = λ n. absurd (false≢true n) } }
 
-    -- the first Jacobian's reply: with a step that is given the start is told, else its derivative is asked, and no counter
-    -- will show it
+    -- the first Jacobian's reply: with a step that is given the start is told, else its derivative is asked, and `start` shows it
     start-asked :
-        {x : Float} → Unset ≡ c .settings .«first_step» → 1 ≤ length (c .y0) → Stands c (here p FirstJacobian) p h →
-        Next c p h (Derivative x) StartDerivative (jac+1 p)
-    start-asked {x} same some i =
-        let none = hidden-early c h (omega arith) in
-        let asked = hidden-asked c (Derivative x ∷ h) (rw (← same)) some (omega arith) in
-        record { stays = stays-with p; stands = omega arith; tells = record { ended = refl; quiet = λ n. absurd (false≢true n) } }
+        {x : Float} {r : Progress} → Stays p r → Unset ≡ c .settings .«first_step» → 1 ≤ length (c .y0) → 3 - length h ≡ 1 →
+        (automaticStart c (Derivative x ∷ h) ≡ 1 → Stands c (here r StartDerivative) r (Derivative x ∷ h)) →
+        Next c p h (Derivative x) StartDerivative r
+    start-asked {x} s same some third i =
+        let asked = automatic-asked c (Derivative x ∷ h) (rw (← same)) some (omega arith) in
+        record { stays = s; stands = i asked; tells = record { ended = refl; quiet = λ n. absurd (false≢true n) } }
 
     first-step-leads :
         (s : Setting) (ws q : List Float) → s ≡ c .settings .«first_step» → 1 ≤ length (c .y0) → Stands c (here p FirstJacobian) p h →
         Leads p h (firstStep (jac+1 p) s ws q)
     unfolding firstStep hinitAsks started
-    first-step-leads Unset ws q same some i = start-asked same some i
+    first-step-leads Unset ws q same some i =
+        let none = automatic-early c h (omega arith) in
+        start-asked (stays-with p) same some (i .coming) (λ asked. omega arith)
     first-step-leads (Given x) ws q same some i =
-        let none = hidden-early c h (omega arith) in
-        let given = hidden-given c (Start (p .x) ∷ h) (rw (← same)) in
+        let none = automatic-early c h (omega arith) in
+        let given = automatic-given c (Start (p .x) ∷ h) (rw (← same)) in
         record { stays = stays-with p; stands = omega arith; tells = record { ended = refl; quiet = λ _. refl } }
 
     first-jacobian-leads :

@@ -13,6 +13,7 @@ use Rattle.rules.specs.laws.DamageLaws.{Sound}
 use Rattle.rules.specs.laws.UndamagedLaws.{sound-undamaged}
 use Rattle.rules.specs.laws.FactorLaws.{nothing-named, repivoted-named, named-inside}
 use Rattle.rules.specs.Calls.{Configuration}
+use Rattle.rules.specs.laws.HistoryLaws.{automatic-once}
 use Rattle.rules.specs.laws.Standing.{rowAt, here, Stands}
 use Rattle.rules.specs.laws.ExchangeLaws.{Set, Kept, idle, works}
 
@@ -33,7 +34,8 @@ turn-left OrderJacobian turns accepted e t = absurd (true≢false (sym t))
 turn-left Ended turns accepted e t = absurd (true≢false (sym t))
 
 stands-sound : {c : Configuration} {w : Awaited} {p : Progress} {h : List Answer} → Set c p → Stands c (here p w) p h → Sound w p
-stands-sound {w = w} {p = p} s i =
+stands-sound {c} {w = w} {p = p} {h} s i =
+    let once = automatic-once c h in
     record {
       first = i .first;
       fifth = i .fifth;

@@ -9,7 +9,7 @@ use Rattle.rules.specs.Replies.{isEnded}
 use Rattle.rules.specs.laws.Moved.{Repivoted}
 use Rattle.rules.specs.Answers.{isEnd, NoticeOrEnd}
 use Rattle.rules.specs.Calls.{Configuration}
-use Rattle.rules.specs.History.{derivatives, jacobians, startNotices, stepNotices, hidden}
+use Rattle.rules.specs.History.{derivatives, jacobians, startNotices, stepNotices, automaticStart}
 
 -- ---- the table
 
@@ -93,7 +93,8 @@ pub record Stands (c : Configuration) (r : Row) (p : Progress) (h : List Answer)
   pub notices : p .steps .accepted ≡ stepNotices h
   pub starting : startNotices h ≡ r .starts
   pub one-start : r .starts ≤ 1
-  pub evaluations : derivatives h ≡ p .evals .ode + r .ode + hidden c h
+  pub evaluations : derivatives h ≡ p .evals .ode + r .ode + p .evals .start
+  pub automatic : p .evals .start ≡ automaticStart c h
   pub differentials : jacobians h ≡ p .evals .jac + r .jac
   pub factorings : p .evals .lu ≤ p .steps .total
   pub allowed : p .evals .ode + r .odeLeft ≤ 2 + p .limits .newton * p .steps .total + p .steps .accepted

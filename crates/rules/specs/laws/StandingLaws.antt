@@ -16,8 +16,8 @@ use Rattle.rules.specs.laws.Said.{Said, ends, asks}
 use Rattle.rules.specs.laws.MainLoopLaws.{main-loop-says}
 use Rattle.rules.specs.Attempt.{mainLoop}
 use Rattle.rules.specs.Calls.{Configuration}
-use Rattle.rules.specs.History.{hidden}
-use Rattle.rules.specs.laws.HistoryLaws.{hidden-stays}
+use Rattle.rules.specs.History.{automaticStart}
+use Rattle.rules.specs.laws.HistoryLaws.{automatic-stays}
 use Rattle.rules.specs.laws.Standing.{here, still, Stands, Stays, Next}
 
 -- ---- what stays
@@ -66,33 +66,33 @@ module _ (c : Configuration) where
 
   module _ {p r : Progress} {h : List Answer} (s : Stays p r) (late : 3 - length h ≡ 0) where
     pub derivative-asked :
-        {w : Awaited} {x : Float} → isEnded w ≡ false → (hidden c (Derivative x ∷ h) ≡ hidden c h → Stands c (here r w) r (Derivative x ∷ h)) →
+        {w : Awaited} {x : Float} → isEnded w ≡ false → (automaticStart c (Derivative x ∷ h) ≡ automaticStart c h → Stands c (here r w) r (Derivative x ∷ h)) →
         Next c p h (Derivative x) w r
     derivative-asked {x = x} e i =
-        record { stays = s; stands = i (hidden-stays c (Derivative x) h late); tells = record { ended = sym e; quiet = λ n. absurd (false≢true n) } }
+        record { stays = s; stands = i (automatic-stays c (Derivative x) h late); tells = record { ended = sym e; quiet = λ n. absurd (false≢true n) } }
 
     pub jacobian-asked :
-        {w : Awaited} {x : Float} → isEnded w ≡ false → (hidden c (Jacobian x ∷ h) ≡ hidden c h → Stands c (here r w) r (Jacobian x ∷ h)) →
+        {w : Awaited} {x : Float} → isEnded w ≡ false → (automaticStart c (Jacobian x ∷ h) ≡ automaticStart c h → Stands c (here r w) r (Jacobian x ∷ h)) →
         Next c p h (Jacobian x) w r
     jacobian-asked {x = x} e i =
-        record { stays = s; stands = i (hidden-stays c (Jacobian x) h late); tells = record { ended = sym e; quiet = λ n. absurd (false≢true n) } }
+        record { stays = s; stands = i (automatic-stays c (Jacobian x) h late); tells = record { ended = sym e; quiet = λ n. absurd (false≢true n) } }
 
     pub start-told :
-        {x : Float} → (hidden c (Start x ∷ h) ≡ hidden c h → Stands c (here r StartNotice) r (Start x ∷ h)) → Next c p h (Start x) StartNotice r
+        {x : Float} → (automaticStart c (Start x ∷ h) ≡ automaticStart c h → Stands c (here r StartNotice) r (Start x ∷ h)) → Next c p h (Start x) StartNotice r
     start-told {x} i =
-        record { stays = s; stands = i (hidden-stays c (Start x) h late); tells = record { ended = refl; quiet = λ _. refl } }
+        record { stays = s; stands = i (automatic-stays c (Start x) h late); tells = record { ended = refl; quiet = λ _. refl } }
 
     pub step-told :
-        {x y z v : Float} → (hidden c (Step x y z v ∷ h) ≡ hidden c h → Stands c (here r StepNotice) r (Step x y z v ∷ h)) →
+        {x y z v : Float} → (automaticStart c (Step x y z v ∷ h) ≡ automaticStart c h → Stands c (here r StepNotice) r (Step x y z v ∷ h)) →
         Next c p h (Step x y z v) StepNotice r
     step-told {x} {y} {z} {v} i =
-        record { stays = s; stands = i (hidden-stays c (Step x y z v) h late); tells = record { ended = refl; quiet = λ _. refl } }
+        record { stays = s; stands = i (automatic-stays c (Step x y z v) h late); tells = record { ended = refl; quiet = λ _. refl } }
 
     pub end-told :
-        {status : Status} {x : Float} → (hidden c (End status x ∷ h) ≡ hidden c h → Stands c (here r Ended) r (End status x ∷ h)) →
+        {status : Status} {x : Float} → (automaticStart c (End status x ∷ h) ≡ automaticStart c h → Stands c (here r Ended) r (End status x ∷ h)) →
         Next c p h (End status x) Ended r
     end-told {status} {x} i =
-        record { stays = s; stands = i (hidden-stays c (End status x) h late); tells = record { ended = refl; quiet = λ _. refl } }
+        record { stays = s; stands = i (automatic-stays c (End status x) h late); tells = record { ended = refl; quiet = λ _. refl } }
 
   -- what a later state leads to
   pub next-later : {p r s : Progress} {h : List Answer} {a : Answer} {w : Awaited} → Stays p r → Next c r h a w s → Next c p h a w s

@@ -36,6 +36,7 @@ counters-undamaged p s =
       le-ltb (p .steps .total) (p .evals .lu) (s .factors),
       le-ltb (2 + p .steps .total) (p .evals .jac) (s .derived),
       le-ltb (2 + p .limits .newton * p .steps .total + p .steps .accepted) (p .evals .ode) (s .evaluated),
+      le-ltb 1 (p .evals .start) (s .start-once),
     )
 
 pub sound-undamaged : (w : Awaited) (p : Progress) → 1 ≤ p .n → p .n ≤ maxN → pivotOutside (p .n) (p .pivot) ≡ false → Sound w p → damaged w p ≡ false

@@ -9,7 +9,7 @@ use Rattle.rules.specs.Answers.{isRefused, NoticeOrEnd}
 use Rattle.rules.specs.State.{After}
 use Rattle.rules.specs.Calls.{Configuration, Call}
 use Rattle.rules.specs.History.{Exchange, begins, goes-on, is-refused}
-use Rattle.rules.specs.promises.Demand3.{Counted, demand-3}
+use Rattle.rules.specs.promises.Demand3.{Counted, demand-3, StartShown, start-is-1-once-asked}
 use Rattle.rules.specs.promises.Solver.{Solver, Meets, Line, line, Replied, next, later, transcript}
 
 -- ---- an exchange with a solver
@@ -43,6 +43,10 @@ module _ {o : Solver} (m : Meets o) {c : Configuration} where
   -- so its counters are demand 3's, at every notice and at the end
   pub every-solver-counts : {run : Run} {a : Answer} {h : List Answer} → ExchangeWith o c run (a ∷ h) → NoticeOrEnd a → Counted c run (a ∷ h)
   every-solver-counts x n = demand-3 (exchange-is-ours x) n
+
+  -- and its `start` is the history's, after every answer
+  pub every-solver-shows-the-start : {run : Run} {h : List Answer} → ExchangeWith o c run h → StartShown c run h
+  every-solver-shows-the-start x = start-is-1-once-asked (exchange-is-ours x)
 
 -- ---- a transcript is an exchange
 

@@ -12,8 +12,8 @@ use Rattle.rules.specs.Types.{Evals, Steps, Answer, Derivative, Jacobian
 use Rattle.rules.specs.Answers.{isStep, isEnd, isRefused, NoticeOrEnd}
 use Rattle.rules.specs.Calls.{Configuration, Call}
 use Rattle.rules.specs.promises.Solver.{Solver, Meets, Replied, Line, ours, later, transcript, transcript-same}
-use Rattle.rules.specs.promises.Demand3.{Counted}
-use Rattle.rules.specs.promises.AnySolver.{ExchangeWith, every-solver-counts}
+use Rattle.rules.specs.promises.Demand3.{Counted, StartShown}
+use Rattle.rules.specs.promises.AnySolver.{ExchangeWith, every-solver-counts, every-solver-shows-the-start}
 use Rattle.rules.specs.promises.Printed.{nought, one, job, transcriptOfJob, replies, lines, fewer, fewer-lines, rising-lines, computed}
 
 -- what stands past a transcript's end: neither a step nor an end, so that nothing is claimed of it
@@ -22,7 +22,7 @@ noLine =
     record {
       answer = Derivative nought;
       y = [];
-      evals = record { ode = 0; jac = 0; lu = 0 };
+      evals = record { ode = 0; jac = 0; lu = 0; start = 0 };
       steps = record { total = 0; accepted = 0; rejected = 0 };
     }
 
@@ -133,7 +133,7 @@ no-repeater-of-values m r = let same : _≡_ {A = ℕ} 3 1 = ap (λ (v : List Fl
 
 -- ---- invented counters
 
--- one that tells counters which are not demand 3's, at a notice or at an end of some exchange
+-- one that tells counters which are not demand 3's, or a `start` that is not the history's, at a notice or at an end of some exchange
 pub record Miscounts (o : Solver) : Type 0 where
   pub configuration : Configuration
   pub run : Run
@@ -141,10 +141,10 @@ pub record Miscounts (o : Solver) : Type 0 where
   pub before : List Answer
   pub exchange : ExchangeWith o configuration run (last ∷ before)
   pub told : NoticeOrEnd last
-  pub wrong : Counted configuration run (last ∷ before) → ⊥
+  pub wrong : Counted configuration run (last ∷ before) → StartShown configuration run (last ∷ before) → ⊥
 
 pub no-miscounter : {o : Solver} → Meets o → Miscounts o → ⊥
-no-miscounter m x = x .wrong (every-solver-counts m (x .exchange) (x .told))
+no-miscounter m x = x .wrong (every-solver-counts m (x .exchange) (x .told)) (every-solver-shows-the-start m (x .exchange))
 
 -- where a solver meets the contracts, its counters are ours at every line of every exchange
 pub counters-are-ours : {o : Solver} → Meets o → (c : Configuration) (ws q : List Float) (replies : List Replied) (k : ℕ)

@@ -1,14 +1,15 @@
 -- The job that document 01 prints whole: one component, 100,000 steps, Newton 4, from 0 to 1, first step 0.5, tolerances 1e-3 and
 -- 1e-6, y0 = 1, A = 0. The caller answers every derivative and Jacobian with 0 and continues at every notice; the notices and the
--- end that the definitions then compute are what 01 prints. Beside it the same with one step
--- allowed, whose last line 01 prints too; and, not printed there, with y' = 1 in place of y' = 0, where y moves.
+-- end that the definitions then compute are what 01 prints, with 02 §6's `start` besides. Beside it the same with one step allowed, whose
+-- last line 01 prints too; and, not printed there, with y' = 1 in place of y' = 0, where y moves, and with an automatic start as far as
+-- its notice.
 use mathlib.Core.Path.{_≡_, refl}
 use mathlib.Core.Bool.{false}
 use mathlib.Core.List.{List, [], _∷_}
 use Prim.Native.Nat.{ℕ}
 use lib.IntN.{pos, negsuc}
 use lib.ListN.{replicate}
-use lib.Ieee.{Float, nan, fin, binary64, ofBits, ofInt, add, sub, mul, div, neg, eq, ne, lt, le}
+use lib.Ieee.{Float, nan, fin, ofBits, ofInt, add, sub, mul, div, neg, eq, ne, lt, le}
 use Rattle.loops.specs.Choice.{if_then_else_}
 use Rattle.loops.specs.Loop.{turns, loop}
 use Rattle.number.specs.Helpers.{absOf, signumOf, minOf, maxOf}
@@ -16,6 +17,7 @@ use Rattle.roots.specs.Roots.{sqrtOf}
 use Rattle.matrix.specs.Size.{sizedOf}
 use Rattle.matrix.specs.Lu.{singleOf, lu_decompOf as luDecompOf}
 use Rattle.matrix.specs.Linear.{insideOf, dividedOf, solvedOf, lin_solveOf as linSolveOf}
+use Rattle.rules.specs.Literals.{milli, micro}
 use Rattle.rules.specs.Tables.{kappa, gammas, alphas, errorConsts}
 use Rattle.rules.specs.Moves.{copyTurn, copied, fillTurn, filled, loadTurn, loaded}
 use Rattle.rules.specs.Predict.{predictedTurn, predicted, predictTurn, predict, scaleOf, scaleTurn, scaled, psiSumTurn, psiSum, psiTurn, psied}
@@ -25,11 +27,12 @@ use Rattle.rules.specs.Newton.{residualTurn, residual, solved, correctio
 use Rattle.rules.specs.Judge.{safetyOf, weighTurn, weighed, newestTurn, newest, addNextTurn, addNext, summedTurn, summed, coeff, coeffTurn, coeffs, contTurn, prepared, acceptedWs}
 use Rattle.rules.specs.Attempt.{toHmax, toHmin, aimed, newtonStart, mustFactor, refactored, predictedAll, attemptAt, guarded, fitted, fittedAttempt, attempt, tries, mainLoop}
 use Rattle.rules.specs.Step.{stepAccepted, errorWs, judged, iterated, newtonReplied}
-use Rattle.rules.specs.Reply.{jacobianStored, firstTurn, firstDifference, differences, started, firstStep, stepped, newtonTurn, firstDerivative, firstJacobian}
+use Rattle.rules.specs.Starting.{squaresTurn, squares, rawGuess, firstGuess, guess, eulerTurn, euler, secondTurn, second, h1, finalGuess, hinit, withinSpan}
+use Rattle.rules.specs.Reply.{jacobianStored, firstTurn, firstDifference, differences, started, hinitAsks, firstStep, hinitReplied, stepped, newtonTurn, firstDerivative, firstJacobian}
 use Rattle.rules.specs.Checks.{negative, limited, tolerancesChecked, checked}
 use Rattle.rules.specs.Begin.{spanOf, kept, beginWs, askFirst, beginRun, beginOf}
 use Rattle.rules.specs.GoOn.{pivotOutside, limitsDamaged, stepsDamaged, countersDamaged, damagedAbove0, damaged, goChecked, goWithin, goOn}
-use Rattle.rules.specs.Types.{Unset, Given, Scalar, Answer, Derivative, Jacobian, Start, Step, End, Success, NeedLargerNMax, Values, Continue}
+use Rattle.rules.specs.Types.{Setting, Unset, Given, Scalar, Answer, Derivative, Jacobian, Start, Step, End, Success, NeedLargerNMax, Values, Continue}
 use Rattle.rules.specs.Calls.{Configuration}
 use Rattle.rules.specs.promises.Solver.{Solver, Replied, Line, ours, later, transcript}
 
@@ -49,8 +52,9 @@ more-half = fin false 3 (negsuc 0)
 abbrev pub two : Float
 two = fin false 1 (pos 1)
 
-abbrev pub job : ℕ → Configuration
-job steps =
+-- with so many steps, and this first step
+abbrev jobWith : ℕ → Setting → Configuration
+jobWith steps first =
     record {
       settings =
           record {
@@ -59,20 +63,29 @@ job steps =
             «min_step» = Unset;
             «newton_maxiter» = 4;
             «newton_tol» = Unset;
-            «first_step» = Given half;
+            «first_step» = first;
           };
       x0 = nought;
       y0 = one ∷ [];
       xend = one;
-      rtol = Scalar (ofBits binary64 0x3f50_624d_d2f1_a9fc);
+      rtol = Scalar milli;
       rtols = [];
-      atol = Scalar (ofBits binary64 0x3eb0_c6f7_a0b5_ed8d);
+      atol = Scalar micro;
       atols = [];
     }
 
--- the job's transcript. The slices may hold anything before it: here NaN
+abbrev pub job : ℕ → Configuration
+job steps = jobWith steps (Given half)
+
+abbrev automaticJob : Configuration
+automaticJob = jobWith 100000 Unset
+
+-- a transcript. The slices may hold anything before it: here NaN
+abbrev transcriptOf : Solver → Configuration → List Replied → List Line
+transcriptOf o c replies = transcript o c (replicate 35 nan) (replicate 8 nan) replies
+
 abbrev pub transcriptOfJob : Solver → ℕ → List Replied → List Line
-transcriptOfJob o steps replies = transcript o (job steps) (replicate 35 nan) (replicate 8 nan) replies
+transcriptOfJob o steps replies = transcriptOf o (job steps) replies
 
 abbrev value : Float → Replied
 value v = (Values, v ∷ [])
@@ -80,13 +93,13 @@ value v = (Values, v ∷ [])
 abbrev continue : Replied
 continue = (Continue, [])
 
--- a line: the answer, y, then the counters ode, jac, lu, total, accepted, rejected
-abbrev says : Answer → Float → ℕ → ℕ → ℕ → ℕ → ℕ → ℕ → Line
-says a v ode jac lu total accepted rejected =
+-- a line: the answer, y, then the counters ode, jac, lu, start, total, accepted, rejected
+abbrev says : Answer → Float → ℕ → ℕ → ℕ → ℕ → ℕ → ℕ → ℕ → Line
+says a v ode jac lu start total accepted rejected =
     record {
       answer = a;
       y = v ∷ [];
-      evals = record { ode = ode; jac = jac; lu = lu };
+      evals = record { ode = ode; jac = jac; lu = lu; start = start };
       steps = record { total = total; accepted = accepted; rejected = rejected };
     }
 
@@ -98,14 +111,14 @@ replies f = value f ∷ value nought ∷ continue ∷ value f ∷ continue ∷ v
 
 abbrev pub lines : List Line
 lines =
-    says (Derivative nought) one 0 0 0 0 0 0 ∷
-    says (Jacobian nought) one 1 0 0 0 0 0 ∷
-    says (Start nought) one 1 1 0 0 0 0 ∷
-    says (Derivative half) one 1 1 1 1 0 0 ∷
-    says (Step nought half nought half) one 2 1 1 1 1 0 ∷
-    says (Derivative one) one 2 1 1 2 1 0 ∷
-    says (Step half one half half) one 3 1 1 2 2 0 ∷
-    says (End Success half) one 3 1 1 2 2 0 ∷ []
+    says (Derivative nought) one 0 0 0 0 0 0 0 ∷
+    says (Jacobian nought) one 1 0 0 0 0 0 0 ∷
+    says (Start nought) one 1 1 0 0 0 0 0 ∷
+    says (Derivative half) one 1 1 1 0 1 0 0 ∷
+    says (Step nought half nought half) one 2 1 1 0 1 1 0 ∷
+    says (Derivative one) one 2 1 1 0 2 1 0 ∷
+    says (Step half one half half) one 3 1 1 0 2 2 0 ∷
+    says (End Success half) one 3 1 1 0 2 2 0 ∷ []
 
 -- ---- with `max_steps` 1: the second attempt is not made
 
@@ -114,33 +127,46 @@ fewer = value nought ∷ value nought ∷ continue ∷ value nought ∷ continue
 
 abbrev pub fewer-lines : List Line
 fewer-lines =
-    says (Derivative nought) one 0 0 0 0 0 0 ∷
-    says (Jacobian nought) one 1 0 0 0 0 0 ∷
-    says (Start nought) one 1 1 0 0 0 0 ∷
-    says (Derivative half) one 1 1 1 1 0 0 ∷
-    says (Step nought half nought half) one 2 1 1 1 1 0 ∷
-    says (End NeedLargerNMax half) one 2 1 1 1 1 0 ∷ []
+    says (Derivative nought) one 0 0 0 0 0 0 0 ∷
+    says (Jacobian nought) one 1 0 0 0 0 0 0 ∷
+    says (Start nought) one 1 1 0 0 0 0 0 ∷
+    says (Derivative half) one 1 1 1 0 1 0 0 ∷
+    says (Step nought half nought half) one 2 1 1 0 1 1 0 ∷
+    says (End NeedLargerNMax half) one 2 1 1 0 1 1 0 ∷ []
 
 -- ---- with y' = 1: y goes from 1 by 3/2 to 2
 
 abbrev pub rising-lines : List Line
 rising-lines =
-    says (Derivative nought) one 0 0 0 0 0 0 ∷
-    says (Jacobian nought) one 1 0 0 0 0 0 ∷
-    says (Start nought) one 1 1 0 0 0 0 ∷
-    says (Derivative half) more-half 1 1 1 1 0 0 ∷
-    says (Step nought half nought half) more-half 2 1 1 1 1 0 ∷
-    says (Derivative one) two 2 1 1 2 1 0 ∷
-    says (Step half one half half) two 3 1 1 2 2 0 ∷
-    says (End Success half) two 3 1 1 2 2 0 ∷ []
+    says (Derivative nought) one 0 0 0 0 0 0 0 ∷
+    says (Jacobian nought) one 1 0 0 0 0 0 0 ∷
+    says (Start nought) one 1 1 0 0 0 0 0 ∷
+    says (Derivative half) more-half 1 1 1 0 1 0 0 ∷
+    says (Step nought half nought half) more-half 2 1 1 0 1 1 0 ∷
+    says (Derivative one) two 2 1 1 0 2 1 0 ∷
+    says (Step half one half half) two 3 1 1 0 2 2 0 ∷
+    says (End Success half) two 3 1 1 0 2 2 0 ∷ []
 
--- ---- the definitions compute all three
+-- ---- with an automatic start: its derivative is the third question, asked at 1e-6, and `start` shows it from there on
+
+abbrev started-by-itself : List Replied
+started-by-itself = value nought ∷ value nought ∷ value nought ∷ []
+
+abbrev automatic-lines : List Line
+automatic-lines =
+    says (Derivative nought) one 0 0 0 0 0 0 0 ∷
+    says (Jacobian nought) one 1 0 0 0 0 0 0 ∷
+    says (Derivative micro) one 1 1 0 1 0 0 0 ∷
+    says (Start nought) one 1 1 0 1 0 0 0 ∷ []
+
+-- ---- the definitions compute all four
 
 pub record Computed : Type 0 where
   pub printed : transcriptOfJob ours 100000 (replies nought) ≡ lines
   pub one-step : transcriptOfJob ours 1 fewer ≡ fewer-lines
   pub rising : transcriptOfJob ours 100000 (replies one) ≡ rising-lines
+  pub automatic : transcriptOf ours automaticJob started-by-itself ≡ automatic-lines
 
 pub computed : Computed
-unfolding later if_then_else_ turns loop absOf signumOf minOf maxOf sqrtOf sizedOf singleOf luDecompOf insideOf dividedOf solvedOf linSolveOf gammas alphas errorConsts copyTurn copied fillTurn filled loadTurn loaded predictedTurn predicted predictTurn predict scaleOf scaleTurn scaled psiSumTurn psiSum psiTurn psied squareOf squareTurn sumOfSquares rhsNorm matrixTurn matrixCells diagonal matrixRow matrix factored residualTurn residual solved correction advanceTurn advanced converged safetyOf weighTurn weighed newestTurn newest addNextTurn addNext summedTurn summed coeff coeffTurn coeffs contTurn prepared acceptedWs toHmax toHmin aimed newtonStart mustFactor refactored predictedAll attemptAt guarded fitted fittedAttempt attempt tries mainLoop stepAccepted errorWs judged iterated newtonReplied jacobianStored firstTurn firstDifference differences started firstStep stepped newtonTurn firstDerivative firstJacobian negative limited tolerancesChecked checked spanOf kept beginWs askFirst beginRun beginOf pivotOutside limitsDamaged stepsDamaged countersDamaged damagedAbove0 damaged goChecked goWithin goOn ofBits ofInt add sub mul div neg eq lt le ne kappa
-computed = record { printed = refl; one-step = refl; rising = refl }
+unfolding later if_then_else_ turns loop absOf signumOf minOf maxOf sqrtOf sizedOf singleOf luDecompOf insideOf dividedOf solvedOf linSolveOf gammas alphas errorConsts copyTurn copied fillTurn filled loadTurn loaded predictedTurn predicted predictTurn predict scaleOf scaleTurn scaled psiSumTurn psiSum psiTurn psied squareOf squareTurn sumOfSquares rhsNorm matrixTurn matrixCells diagonal matrixRow matrix factored residualTurn residual solved correction advanceTurn advanced converged safetyOf weighTurn weighed newestTurn newest addNextTurn addNext summedTurn summed coeff coeffTurn coeffs contTurn prepared acceptedWs toHmax toHmin aimed newtonStart mustFactor refactored predictedAll attemptAt guarded fitted fittedAttempt attempt tries mainLoop stepAccepted errorWs judged iterated newtonReplied jacobianStored firstTurn firstDifference differences squaresTurn squares rawGuess firstGuess guess eulerTurn euler secondTurn second h1 finalGuess hinit withinSpan started hinitAsks firstStep hinitReplied stepped newtonTurn firstDerivative firstJacobian negative limited tolerancesChecked checked spanOf kept beginWs askFirst beginRun beginOf pivotOutside limitsDamaged stepsDamaged countersDamaged damagedAbove0 damaged goChecked goWithin goOn ofBits ofInt add sub mul div neg eq lt le ne kappa
+computed = record { printed = refl; one-step = refl; rising = refl; automatic = refl }

@@ -13,7 +13,7 @@ use Rattle.rules.specs.Answers.{isEnd, isRefused}
 use Rattle.rules.specs.Calls.{Configuration, Call}
 use Rattle.rules.specs.History.{called, Exchange, goes-on, questionsAndNotices}
 use Rattle.rules.specs.promises.Demand3.{m}
-use Rattle.rules.specs.laws.HistoryLaws.{is-asked, last-taken, hidden-once, all-told}
+use Rattle.rules.specs.laws.HistoryLaws.{is-asked, last-taken, automatic-once, all-told}
 use Rattle.rules.specs.laws.ExchangeLaws.{Kept, idle, works, exchange-kept}
 use Rattle.rules.specs.promises.NeverDamaged.{Suits, ended-is-told, no-refusal}
 
@@ -47,7 +47,7 @@ few-told : {c : Configuration} {run : Run} {h : List Answer} → Kept c run h �
 few-told (idle none) = omega arith
 few-told {c} {run} {h} (works s i t) =
     let p = run .at in
-    let once = hidden-once c h in
+    let once = automatic-once c h in
     let told = all-told h in
     let limit = c .settings .«max_steps» in
     let product : p .limits .newton * p .steps .total ≤ m c * limit = mul-le-mul (omega arith) (omega arith) in

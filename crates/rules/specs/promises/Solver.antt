@@ -24,7 +24,7 @@ pub record Meets (o : Solver) : Type 0 where
 -- ---- an exchange
 
 -- what a caller reads of an outcome: the answer, the state told in the question slice, and the counters: derivatives,
--- Jacobians, factorings; attempts, accepted, rejected
+-- Jacobians, factorings, the start's; attempts, accepted, rejected
 pub record Line : Type 0 where
   pub answer : Answer
   pub y : List Float

@@ -40,12 +40,12 @@ history =
     Jacobian nought ∷
     Derivative nought ∷ []
 
--- its end: the exchange, the counters as 01 prints them, and that they are demand 3's
+-- its end: the exchange, the counters as 01 prints them with 02 §6's `start`, and that they are demand 3's
 pub record PrintedExchange (o : Solver) : Type 0 where
   pub run : Run
   pub exchange : ExchangeWith o (job 100000) run history
   pub one-of-ours : Exchange (job 100000) run history
-  pub evals : run .at .evals ≡ record { ode = 3; jac = 1; lu = 1 }
+  pub evals : run .at .evals ≡ record { ode = 3; jac = 1; lu = 1; start = 0 }
   pub steps : run .at .steps ≡ record { total = 2; accepted = 2; rejected = 0 }
   pub counted : Counted (job 100000) run history
 
@@ -126,7 +126,7 @@ inventor-miscounts =
       before = [];
       exchange = has-begun [] [] refl;
       told = refl;
-      wrong = λ counted. omega (arith, counted .attempts);
+      wrong = λ counted shown. omega (arith, counted .attempts);
     }
 
 -- so it does not meet the contracts

@@ -1,12 +1,10 @@
 -- `going_on::counters_damaged`: past the bounds of the limits and the steps no product or sum wraps. Assumes nothing.
-use mathlib.Core.Path.{_≡_, sym, _∙_}
-use Prim.Native.Nat.{_*_, _≤_}
-use native.Mathlib.Nat.{mul-le-mul}
+use mathlib.Core.Path.{sym, _∙_}
 use native.Mathlib.Omega.{arith}
 use borrow.Author.Needs.{needs}
 use borrow.Author.Tests.{lt-ltb, le-ltb}
 use Rattle.rules.specs.GoOn.{countersDamaged}
-use Rattle.rules.specs.laws.DamageLaws.{limited, stepped, derivatives-bounded}
+use Rattle.rules.specs.laws.DamageLaws.{derivatives-bounded}
 use Rattle.bdf.proofs.going_on.counters_damaged.Statement.{statement}
 use Rattle.bdf.proofs.going_on.counters_damaged.Tie as tie
 
@@ -46,7 +44,12 @@ returns-5 c =
 returns-6 : tie.Need-returns-6
 unfolding countersDamaged
 returns-6 c =
-    rw (← c .before .before .before .before .before .before .before .before .before .before .before .before .steps-damaged .ensures, c .before .before .before .before .before .before .before .before .before .before .before .if1 .left, le-ltb _ _ (c .before .before .before .before .before .before .before .before .before .if2 .left), le-ltb _ _ (c .before .before .before .before .before .before .before .if3 .left), le-ltb _ _ (c .before .before .before .before .if4 .left), le-ltb _ _ (c .if5 .left))
+    rw (← c .before .before .before .before .before .before .before .before .before .before .before .before .before .before .steps-damaged .ensures, c .before .before .before .before .before .before .before .before .before .before .before .before .before .if1 .left, le-ltb _ _ (c .before .before .before .before .before .before .before .before .before .before .before .if2 .left), le-ltb _ _ (c .before .before .before .before .before .before .before .before .before .if3 .left), le-ltb _ _ (c .before .before .before .before .before .before .if4 .left), le-ltb _ _ (c .before .before .if5 .left), lt-ltb _ _ (c .if6 .taken))
+
+returns-7 : tie.Need-returns-7
+unfolding countersDamaged
+returns-7 c =
+    rw (← c .before .before .before .before .before .before .before .before .before .before .before .before .before .before .steps-damaged .ensures, c .before .before .before .before .before .before .before .before .before .before .before .before .before .if1 .left, le-ltb _ _ (c .before .before .before .before .before .before .before .before .before .before .before .if2 .left), le-ltb _ _ (c .before .before .before .before .before .before .before .before .before .if3 .left), le-ltb _ _ (c .before .before .before .before .before .before .if4 .left), le-ltb _ _ (c .before .before .if5 .left), le-ltb _ _ (c .if6 .left))
 
 pub counters-damaged-spec : {M : Type 1} → statement M
 counters-damaged-spec =
@@ -62,4 +65,5 @@ counters-damaged-spec =
     add-derivatives
     add-derivatives-2
     returns-5
-    returns-6)
+    returns-6
+    returns-7)

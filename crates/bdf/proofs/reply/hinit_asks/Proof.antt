@@ -7,7 +7,7 @@ use Rattle.bdf.proofs.reply.hinit_asks.Tie as tie
 returns : tie.Need-returns
 unfolding hinitAsks
 returns c =
-    λ pivot. rw (c .says .ensures pivot, c .before .before .before .before .tell .ensures, c .before .before .before .before .before .before .before .before .before .euler .ensures, c .before .before .before .before .before .before .before .before .before .before .before .guess .ensures)
+    λ pivot. rw (c .says .ensures pivot, c .before .before .before .before .before .tell .ensures, c .before .before .before .before .before .before .before .before .before .before .euler .ensures, c .before .before .before .before .before .before .before .before .before .before .before .before .guess .ensures)
 
 pub hinit-asks-spec : {M : Type 1} → statement M
 hinit-asks-spec =

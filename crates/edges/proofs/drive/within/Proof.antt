@@ -12,7 +12,6 @@ pub within-spec : {M : Type 1} → statement M
 within-spec =
     tie.close
     (tie.spec
-    (λ c κs. search needs)
     (λ c. search needs)
     slice-aggregate-begin
     (λ c. search needs)

@@ -5,14 +5,15 @@ use Prim.Native.Nat.{_≤_, _-_}
 use native.Mathlib.Omega.{arith}
 use lib.ListN.{length}
 use borrow.Author.Needs.{needs}
+use Rattle.edges.specs.Forgeries.{forgeryCount}
 use Rattle.edges.proofs.tally.counts.Statement.{statement}
 use Rattle.edges.proofs.tally.counts.Tie as tie
 
 abbrev Inv-loop : tie.InvT-loop
-Inv-loop out₀ tally sums₀ p₀ k₀ t8 out sums p k = (length out ≡ length out₀) × ((length sums ≡ 6) × (k ≤ 23))
+Inv-loop out₀ tally sums₀ p₀ k₀ t8 out sums p k = (length out ≡ length out₀) × ((length sums ≡ 6) × (k ≤ forgeryCount))
 
 abbrev μ-loop : tie.MeasureT-loop
-μ-loop out₀ tally sums₀ p₀ k₀ t8 out sums p k = 23 - k
+μ-loop out₀ tally sums₀ p₀ k₀ t8 out sums p k = forgeryCount - k
 
 pub counts-spec : {M : Type 1} → statement M
 counts-spec =
