@@ -1,5 +1,5 @@
--- Demand 3 of the tender, with 02 §6's `start`: 'Take an accepted configuration, any replies at all, each call handing back the state last returned;
--- refused calls don't count.' That is an `Exchange` (History.antt). 'At every notice and at the end' the following holds.
+-- Demand 3 of the tender, with 02 §6's `start`: 'Take an accepted configuration, any replies at all, each call handing back the state
+-- last returned; refused calls don't count.' That is an `Exchange` (History.antt). 'At every notice and at the end' the following holds.
 use mathlib.Core.Path.{_≡_, sym, ap}
 use mathlib.Core.List.{List, _∷_}
 use Prim.Native.Nat.{ℕ, _+_, _*_, _≤_, max}
