@@ -24,6 +24,7 @@ fn main() {
     roots(&dir, random);
     matrix(&dir, random);
     interpolation(&dir, random);
+    rescaling(&dir, random);
     runs(&dir);
     jobs(&dir, random);
     cvode(&dir);
@@ -150,6 +151,19 @@ fn interpolation(dir: &Path, random: &mut Random) {
         let input = [&[n as u64][..], &words(&places), &words(&[xold, h]), &words(&cont)].concat();
         let what = format!("interpolation, n {n}");
         Row { what, driver: dir.join("interpolate"), head: vec![], input, times: 3_000, units: 16.0, rust: &values, expected: &values, goal: "" }.print();
+    }
+}
+
+/// change_d by 16 factors, each on a copy of D.
+fn rescaling(dir: &Path, random: &mut Random) {
+    for (n, order) in [(1, 1), (1, 5), (4, 1), (4, 3), (4, 5), (32, 1), (32, 5)] {
+        let factors: Vec<f64> = (0..16).map(|i| 0.2 + i as f64 / 7.0).collect();
+        let d: Vec<f64> = (0..(order + 1) * n).map(|_| random.signed()).collect();
+        let rows: Vec<Vec<f64>> = d.chunks(n).map(<[f64]>::to_vec).collect();
+        let values = || factors.iter().fold(0.0, |sum, &factor| sum + rust::rescale(&rows, factor));
+        let input = [&[n as u64, order as u64][..], &words(&factors), &words(&d)].concat();
+        let what = format!("change_d, n {n}, order {order}");
+        Row { what, driver: dir.join("rescale"), head: vec![], input, times: 3_000, units: 16.0, rust: &values, expected: &values, goal: "" }.print();
     }
 }
 

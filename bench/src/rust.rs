@@ -44,6 +44,32 @@ pub fn interpolate(xi: f64, cont: &[f64], xold: f64, h: f64, n: usize) -> f64 {
     })
 }
 
+/// The Rust's own rescaling, which is private there: the published functions as oracle/build takes them out.
+mod private {
+    type Float = f64;
+    const MAX_ORDER: usize = 5;
+    include!("../../target/oracle/compute_r.rs");
+    include!("../../target/oracle/matmul.rs");
+    include!("../../target/oracle/change_d.rs");
+
+    thread_local! {
+        static D: std::cell::RefCell<[Vec<Vec<f64>>; 2]> = const { std::cell::RefCell::new([vec![], vec![]]) };
+    }
+
+    /// Copies and rescales; the last component of the last row.
+    pub fn rescale(rows: &[Vec<f64>], factor: f64) -> f64 {
+        D.with_borrow_mut(|[d, scratch]| {
+            if d.len() != rows.len() || d[0].len() != rows[0].len() {
+                (*d, *scratch) = (rows.to_vec(), rows.to_vec());
+            }
+            d.iter_mut().zip(std::hint::black_box(rows)).for_each(|(to, from)| to.copy_from_slice(from));
+            change_d(d, rows.len() - 1, factor, scratch);
+            d[rows.len() - 1][rows[0].len() - 1]
+        })
+    }
+}
+pub use private::rescale;
+
 /// What a run came to: its attempts, the sum of the first component over the steps that it told, and where it was asked for the
 /// state at the last of them.
 pub struct Done {

@@ -8,6 +8,7 @@
 //!   oracle check                                 answers what the papers print, and compares
 //!   oracle job < JOB                             prints what the job program must print for a packed job
 //!   oracle try-jobs PROGRAM KIND COUNT SEED ROOM puts packed jobs, known, ordinary or damaged, to a program and compares
+//!   oracle unit bits|values                      prints the unit coefficients: compute_r at 1.0, for each order
 //!   oracle jobs COUNT SEED                       prints ordinary jobs' lines
 //!   oracle powers COUNT SEED                     counts where powf is the exact inverse root
 //!   oracle agreement JOBS JOBS                   counts where two such prints agree
@@ -24,6 +25,7 @@ mod sample;
 mod systems;
 mod tried;
 mod unfit;
+mod unit;
 mod ways;
 mod words;
 
@@ -77,13 +79,15 @@ fn main() {
             let same = tried::try_jobs(program, kind, number(count), number(seed), room);
             exit(if same { 0 } else { 1 })
         }
+        ["unit", "bits"] => print!("{}", unit::unit(false)),
+        ["unit", "values"] => print!("{}", unit::unit(true)),
         ["jobs", count, seed] => print!("{}", jobs::jobs(number(count), number(seed))),
         ["powers", count, seed] => print!("{}", jobs::powers(number(count), number(seed))),
         ["agreement", one, other] => {
             print!("{}", jobs::agreement(&fs::read_to_string(one).unwrap(), &fs::read_to_string(other).unwrap()))
         }
         _ => {
-            eprintln!("oracle cases | answer | sample | unfit | known | check | job | try-jobs | jobs | powers | agreement: see src/main.rs");
+            eprintln!("oracle cases | answer | sample | unfit | known | check | job | try-jobs | unit | jobs | powers | agreement: see src/main.rs");
             exit(2)
         }
     }

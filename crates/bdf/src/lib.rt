@@ -19,7 +19,6 @@ mod run;
 mod starting;
 mod step;
 mod tables;
-mod unit;
 
 pub use beginning::begin;
 pub use going_on::go_on;

@@ -1,14 +1,14 @@
 // Rescaling the differences D to another step size: `compute_r`, `matmul` and `change_d` of the Rust. A table of
 // order + 1 rows is an array of 36, its entry (i, j) at i * 6 + j.
 use crate::moves::load;
-use crate::unit::unit_r;
 use matrix::MAX_N;
+use unit::unit_r;
 ghost use mathlib.Core.Path.{_≡_};
 ghost use Prim.Native.Nat.{_+_, _*_, _≤_, _<_};
 ghost use lib.ListN.{length};
-ghost use Rattle.loops.specs.Arithmetic.{one};
 ghost use Rattle.matrix.specs.Size.{maxN};
 ghost use Rattle.rules.specs.Tables.{maxOrder};
+ghost use Rattle.rules.specs.promises.RowSumLaw.{ruOf};
 ghost use Rattle.rules.specs.Rescale.{firstRow, mRow, mTable, rRow, rTable, computeR, addScaled, productRow, matmul as product, newRow, newRows, changeD};
 
 // Room for six new rows of as many components as there can be.
@@ -121,6 +121,30 @@ fn matmul(a: &[f64; 36], b: &[f64; 36], size: usize) -> [f64; 36]
     res
 }
 
+// ru: the table at the factor, times the unit coefficients.
+fn ru_of(order: usize, factor: f64) -> [f64; 36]
+    requires { ⌜ order ≤ maxOrder ⌝ }
+    ensures { λ r. ⌜ r ≡ ruOf order factor ⌝ }
+{
+    let r = compute_r(order, factor);
+    let u = unit_r();
+    matmul(&r, &u, order + 1)
+}
+
+// The same, for speed: where the order is a literal the compiler unrolls the loops, and the unit coefficients are constants in them.
+fn ru_by_order(order: usize, factor: f64) -> [f64; 36]
+    requires { ⌜ (1 ≤ order) × (order ≤ maxOrder) ⌝ }
+    ensures { λ r. ⌜ r ≡ ruOf order factor ⌝ }
+{
+    match order {
+        1 => ru_of(1, factor),
+        2 => ru_of(2, factor),
+        3 => ru_of(3, factor),
+        4 => ru_of(4, factor),
+        _ => ru_of(5, factor),
+    }
+}
+
 fn new_row(scratch: &mut [f64], ru: &[f64; 36], d: &[f64], n: usize, size: usize, i: usize)
     requires { ⌜ (i < 6) × (size ≤ 6) × (i * n + n ≤ length (now scratch)) × (6 * n ≤ length (now d)) ⌝ }
     ensures { λ _. ⌜ now (scratch .exit) ≡ newRow n (now (ru .entry)) (now (d .entry)) size i (now (scratch .entry)) ⌝ }
@@ -150,9 +174,7 @@ pub(crate) fn change_d(d: &mut [f64], n: usize, order: usize, factor: f64)
         return;
     }
     let size = order + 1;
-    let r = compute_r(order, factor);
-    let u = unit_r(order);
-    let ru = matmul(&r, &u, size);
+    let ru = ru_by_order(order, factor);
     let scratch = new_rows(&ru, d, n, size);
     load(d, &scratch, 0, 0, size * n);
 }

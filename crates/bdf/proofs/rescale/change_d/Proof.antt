@@ -15,20 +15,20 @@ returns c = rw (c .if1 .taken)
 
 mul-load : tie.Need-mul-load
 mul-load c =
-    let args = c .before .before .before .before .before .before .before .before .before .before .before .before .args in
+    let args = c .before .before .before .before .before .before .before .before .args in
     let below : args .order * (args .n) + (args .n) ≤ 6 * (args .n) = row-within (args .n) (omega arith) in
     omega arith
 
 load-requires : tie.Need-load-requires
 load-requires c κs =
-    let args = c .before .before .before .before .before .before .before .before .before .before .before .before .args in
+    let args = c .before .before .before .before .before .before .before .before .args in
     let below : args .order * (args .n) + (args .n) ≤ 6 * (args .n) = row-within (args .n) (omega arith) in
     (omega arith, omega arith)
 
 returns-2 : tie.Need-returns-2
 unfolding changeD rescaled if_then_else_
 returns-2 c =
-    rw (c .before .before .before .before .before .before .before .before .before .before .before .before .before .if1 .left, min-eq-left (c .before .before .before .before .before .before .before .before .before .before .before .before .before .before .before .pre .1), c .before .before .load .ensures, c .before .before .before .before .before .new-rows .ensures, c .before .before .before .before .before .before .before .before .matmul .ensures, c .before .before .before .before .before .before .before .before .before .before .before .before .compute-r .ensures, c .before .before .before .before .before .before .before .before .before .before .before .unit-r .ensures)
+    rw (c .before .before .before .before .before .before .before .before .before .if1 .left, min-eq-left (c .before .before .before .before .before .before .before .before .before .before .before .pre .1), c .before .before .load .ensures, c .before .before .before .before .before .new-rows .ensures, c .before .before .before .before .before .before .before .before .ru-by-order .ensures)
 
 pub change-d-spec : {M : Type 1} → statement M
 change-d-spec =
@@ -36,8 +36,6 @@ change-d-spec =
     (tie.spec
     returns
     (λ c. search needs)
-    (λ c κs. search needs)
-    (λ c κs. search needs)
     (λ c κs. search needs)
     (λ c κs. search needs)
     (λ c. search needs)
