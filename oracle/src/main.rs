@@ -8,7 +8,7 @@
 //!   oracle check                                 answers what the papers print, and compares
 //!   oracle job < JOB                             prints what the job program must print for a packed job
 //!   oracle try-jobs PROGRAM KIND COUNT SEED ROOM puts packed jobs, known, ordinary or damaged, to a program and compares
-//!   oracle unit bits|values                      prints the unit coefficients: compute_r at 1.0, for each order
+//!   oracle unit bits|page                        prints the unit coefficients, compute_r at 1.0: as show_unit, as the page
 //!   oracle jobs COUNT SEED                       prints ordinary jobs' lines
 //!   oracle powers COUNT SEED                     counts where powf is the exact inverse root
 //!   oracle agreement JOBS JOBS                   counts where two such prints agree
@@ -79,8 +79,8 @@ fn main() {
             let same = tried::try_jobs(program, kind, number(count), number(seed), room);
             exit(if same { 0 } else { 1 })
         }
-        ["unit", "bits"] => print!("{}", unit::unit(false)),
-        ["unit", "values"] => print!("{}", unit::unit(true)),
+        ["unit", "bits"] => print!("{}", unit::bits()),
+        ["unit", "page"] => print!("{}", unit::page()),
         ["jobs", count, seed] => print!("{}", jobs::jobs(number(count), number(seed))),
         ["powers", count, seed] => print!("{}", jobs::powers(number(count), number(seed))),
         ["agreement", one, other] => {

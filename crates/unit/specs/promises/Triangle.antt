@@ -11,7 +11,7 @@ use Rattle.rules.specs.Tables.{maxOrder}
 use Rattle.unit.specs.Unit.{unitR}
 use Rattle.unit.specs.laws.ByOrder.{by-order}
 
--- the ways to take i of j things, by Pascal's rule: without the first, or with it
+-- `ways j i`: the ways to take i of j things, by Pascal's rule: without the first of them, or with it
 unfoldable pub ways : ℕ → ℕ → ℕ
 ways j zero = 1
 ways zero (suc i) = 0
