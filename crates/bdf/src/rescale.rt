@@ -132,7 +132,7 @@ fn ru_of(order: usize, factor: f64) -> [f64; 36]
 }
 
 // The same, for speed: in each call the order is a literal, so the compiler unrolls the loops and folds the unit coefficients in. With the
-// variable in even one of the calls change_d takes 1.2 to 1.5 times as long.
+// variable in even one of the calls change_d takes 1.1 to 1.5 times as long.
 fn ru_by_order(order: usize, factor: f64) -> [f64; 36]
     requires { ⌜ (1 ≤ order) × (order ≤ maxOrder) ⌝ }
     ensures { λ r. ⌜ r ≡ product (computeR order factor) (computeR order one) (order + 1) ⌝ }

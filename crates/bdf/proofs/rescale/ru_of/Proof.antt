@@ -7,9 +7,10 @@ use Rattle.bdf.proofs.rescale.ru_of.Tie as tie
 
 returns : tie.Need-returns
 returns c =
-    let order = c .before .before .before .before .before .args .order in
-    let factor = c .before .before .before .before .before .args .factor in
-    rw (c .before .before .before .before .compute-r .ensures, c .before .before .before .unit-r .ensures, product-by-the-table order (computeR order factor) (c .before .before .before .before .before .pre)) at (c .matmul .ensures)
+    let start = c .before .before .before .before .before in
+    let r = computeR (start .args .order) (start .args .factor) in
+    rw (c .before .before .before .before .compute-r .ensures, c .before .before .before .unit-r .ensures, product-by-the-table (start .args .order) r (start .pre))
+    at (c .matmul .ensures)
 
 pub ru-of-spec : {M : Type 1} → statement M
 ru-of-spec =
