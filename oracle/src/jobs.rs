@@ -43,17 +43,19 @@ pub fn agreement(one: &str, other: &str) -> String {
     )
 }
 
-/// How powf stands to the exact inverse root, on ordinary numbers.
+/// How powf stands to the exact inverse root, on ordinary numbers: for each k, and in all. The exponent -1/k is itself rounded but for
+/// k 1, 2 and 4.
 pub fn powers(count: u64, seed: u64) -> String {
     let mut random = Random::new(seed);
-    let (mut equal, mut above, mut below) = (0, 0, 0);
+    let mut stands = [[0; 3]; 8];
     for _ in 0..count {
         let (k, x) = (random.from_to(1, 7), random.decade(-12.0, 12.0));
-        match x.powf(-1.0 / k as f64).total_cmp(&powers::inverse_root_in_range(k, x)) {
-            std::cmp::Ordering::Equal => equal += 1,
-            std::cmp::Ordering::Greater => above += 1,
-            std::cmp::Ordering::Less => below += 1,
-        }
+        let side = x.powf(-1.0 / k as f64).total_cmp(&powers::inverse_root_in_range(k, x)) as i8 + 1;
+        stands[k][side as usize] += 1;
+        stands[0][side as usize] += 1;
     }
-    format!("of {count} inverse roots powf is equal in {equal}, above in {above}, below in {below}\n")
+    let line = |of: String, [below, equal, above]: [u64; 3]| {
+        format!("of {} inverse roots{of} powf is equal in {equal}, above in {above}, below in {below}\n", below + equal + above)
+    };
+    (1..8).map(|k| line(format!(" of k {k}"), stands[k])).collect::<String>() + &line(String::new(), stands[0])
 }

@@ -1,4 +1,4 @@
-//! Document 01's powers, over whole numbers and without powf. Written from the document alone.
+//! Document 01's powers, the inverse root as 02 §4 has it, over whole numbers and without powf. Written from the documents alone.
 
 /// rate times itself, left to right: `power` factors.
 pub fn whole_power(rate: f64, power: usize) -> f64 {
@@ -27,7 +27,7 @@ pub fn inverse_root(k: u64, x: f64) -> Option<f64> {
     } else if x == f64::INFINITY {
         0.0
     } else {
-        greatest_root(k, x)
+        nearest_root(k, x)
     })
 }
 
@@ -36,30 +36,29 @@ pub fn inverse_root_in_range(k: usize, x: f64) -> f64 {
     inverse_root(k as u64, x).unwrap()
 }
 
-/// The greatest finite r with r^k * x <= 1, for finite x above 0. The patterns of the finite doubles from +0 up
-/// stand in the order of their values, so halving the range of patterns finds it.
-fn greatest_root(k: u64, x: f64) -> f64 {
-    let (mut passes, mut fails) = (0, f64::INFINITY.to_bits());
-    while fails - passes > 1 {
-        let middle = passes + (fails - passes) / 2;
-        if at_most_one(k, f64::from_bits(middle), x) {
-            passes = middle;
-        } else {
-            fails = middle;
-        }
-    }
-    f64::from_bits(passes)
+/// The double nearest to x to the power -1/k, for finite x above 0: as one rounds by hand, ties to even, and what is too great for a
+/// finite double to infinity. With x = m * 2^e the root times 2^places is the k-th root of 2^(k places - e) / m. Its whole part is found
+/// bit by bit at one place more than is kept, and that place and what lies below it decide.
+fn nearest_root(k: u64, x: f64) -> f64 {
+    let (m, e) = parts(x);
+    // the root is at least 2^top and below 2^(top + 1): the greatest power of two whose k-th power times x is at most 1
+    let log = 64 - i64::from((m - 1).leading_zeros());
+    let top = (-e - log).div_euclid(k as i64);
+    // a double above 0 has 53 bits, and none below 2^-1074
+    let places = (52 - top).min(1074);
+    let power = k as i64 * (places + 1) - e;
+    let whole = (0..=53).rev().fold(0, |t, i| if product(m, t | 1 << i, k).at_most_power_of_two(power) { t | 1 << i } else { t });
+    let exact = product(m, whole, k).is_power_of_two(power);
+    let (kept, half) = (whole >> 1, whole & 1 == 1);
+    let rounded = if half && (!exact || kept & 1 == 1) { kept + 1 } else { kept };
+    // rounded * 2^-places: what reaches 2^53 carries into the next exponent, and from infinity's pattern on it is infinity
+    let pattern = ((1074 - places) as u64 * (1 << 52)) + rounded;
+    f64::from_bits(pattern.min(f64::INFINITY.to_bits()))
 }
 
-/// r^k * x <= 1, exactly. With r = s * 2^t and x = m * 2^e the product is s^k * m * 2^(k t + e).
-fn at_most_one(k: u64, r: f64, x: f64) -> bool {
-    let (s, t) = parts(r);
-    let (m, e) = parts(x);
-    let mut product = Whole::of(m);
-    for _ in 0..k {
-        product = product.times(s);
-    }
-    product.at_most_power_of_two(-(k as i64 * t + e))
+/// m * t^k
+fn product(m: u64, t: u64, k: u64) -> Whole {
+    (0..k).fold(Whole::of(m), |product, _| product.times(t))
 }
 
 /// A finite double not below 0 as m * 2^e.
@@ -69,7 +68,7 @@ fn parts(x: f64) -> (u64, i64) {
     if field == 0 { (fraction, -1074) } else { (fraction | 1 << 52, field - 1075) }
 }
 
-/// A whole number below 2^512, least digit first: 8 factors below 2^53 fit.
+/// A whole number below 2^512, least digit first: one factor below 2^53 and seven below 2^54 fit.
 struct Whole([u64; 8]);
 
 impl Whole {
@@ -89,11 +88,18 @@ impl Whole {
         Whole(digits)
     }
 
+    /// The number of its binary digits.
+    fn length(&self) -> i64 {
+        (0..8).rev().find(|&i| self.0[i] != 0).map_or(0, |i| 64 * i as i64 + 64 - i64::from(self.0[i].leading_zeros()))
+    }
+
+    /// self = 2^q: one bit alone is set, and it is that one
+    fn is_power_of_two(&self, q: i64) -> bool {
+        self.length() == q + 1 && self.0.iter().map(|d| d.count_ones()).sum::<u32>() == 1
+    }
+
     /// self <= 2^q
     fn at_most_power_of_two(&self, q: i64) -> bool {
-        let length: i64 = (0..8).rev().find(|&i| self.0[i] != 0).map_or(0, |i| 64 * i as i64 + 64 - self.0[i].leading_zeros() as i64);
-        let ones: u32 = self.0.iter().map(|d| d.count_ones()).sum();
-        // below 2^length and at least 2^(length - 1); equal to it where one bit alone is set
-        length == 0 || length <= q || (length - 1 == q && ones == 1)
+        self.length() <= q || self.is_power_of_two(q)
     }
 }

@@ -13,7 +13,7 @@ use lib.Ieee.Fits.{up-pos}
 use borrow.Author.Tests.{ne-eqb, lt-ltb, le-ltb}
 use Rattle.roots.specs.Roots.{infinityBits, unitsOf, rounded, inverseRoot}
 use Rattle.roots.specs.laws.Patterns.{bits-below, units-bits}
-use Rattle.roots.specs.Scaled.{Scaled, roundedDown}
+use Rattle.roots.specs.Scaled.{Scaled, nearestRoot}
 use Rattle.loops.specs.laws.FloatLaws.{is-nan}
 
 -- +0, as the code writes it
@@ -95,7 +95,7 @@ pattern-above-zero x held z =
 
 -- the inverse root of a finite double above 0 is the pattern that the search gives, whatever its digits and places are
 pub finite-root : (k : ℕ) (x : Float) (digits places : ℕ) → T (fits binary64 x) → ne x x ≡ false → eq x plus-zero ≡ false → lt x plus-zero ≡ false
-    → toBits binary64 x < infinityBits → Scaled (toBits binary64 x) digits places → ofBits binary64 (roundedDown k digits places) ≡ inverseRoot k x
+    → toBits binary64 x < infinityBits → Scaled (toBits binary64 x) digits places → ofBits binary64 (nearestRoot k digits places) ≡ inverseRoot k x
 unfolding inverseRoot lt ne
 finite-root k nan digits places held n z l far scaled = clash refl n
 finite-root k (inf true) digits places held n z l far scaled = unfold ofBits in clash refl l
@@ -104,4 +104,4 @@ finite-root k (fin s zero e) digits places held n z l far scaled = unfold ofBits
 finite-root k (fin true (suc m) e) digits places held n z l far scaled = unfold ofBits in clash (negative m e) l
 finite-root k (fin false (suc m) e) digits places held n z l far scaled =
     let units : unitsOf (fin false (suc m) e) ≡ digits * 2 ^ places = units-bits false (suc m) e held ∙ scaled .worth in
-    ap (λ (u : ℕ). ofBits binary64 (rounded false infinityBits k u (2 ^ (1075 * k + 1074)))) (sym units)
+    ap (λ (u : ℕ). ofBits binary64 (rounded k u (2 ^ (1075 * k + 1074)))) (sym units)

@@ -2,20 +2,28 @@
 use mathlib.Core.Path.{_≡_, refl, sym, ap, _∙_}
 use mathlib.Core.Bool.{Bool, true, false}
 use Prim.Native.Nat.{ℕ, zero, suc, _+_, _-_, _*_, _/_, _%_, _^_, _≤_, _<_}
-use native.Mathlib.Nat.{mul-le-mul, le-of-lt, not-le-of-lt, mul-le-mul-right, mul-lt-mul-of-pos-right, mul-pos, one-le-pow, le-mul-of-pos-right, lt-of-lt-of-le, pow-suc, pow-zero, mul-one, mul-comm, mul-mul-mul-comm}
+use native.Mathlib.Nat.{mul-le-mul, le-of-lt, lt-irrefl, not-le-of-lt, mul-le-mul-right, mul-lt-mul-of-pos-right, mul-pos, one-le-pow, le-mul-of-pos-right, lt-of-lt-of-le, pow-suc, pow-zero, mul-one, mul-comm, mul-mul-mul-comm}
 use native.Mathlib.Omega.{arith}
 use lib.Dec.{leb}
-use lib.Pow.{pow-pos, pow-add, pow-lt}
-use borrow.Author.Tests.{leb-true, leb-false, le-leb, lt-leb, lt-ltb}
+use lib.Pow.{pow-pos, pow-add, pow-lt, pow-mono}
+use borrow.Author.Tests.{leb-true, leb-false, le-leb, lt-leb}
 use Rattle.roots.specs.Roots.{val, infinityBits, edge, reaches}
 use Rattle.roots.specs.laws.Patterns.{val-small, val-normal, val-step}
-use Rattle.roots.specs.Scaled.{Scaled, Asked, reachesDown}
+use Rattle.roots.specs.Scaled.{Scaled, Asked, reachesRoot}
 
 -- ---- a pattern's value
 
--- one step up from a value at the places q
-step-up : (b d q : ℕ) → val b ≡ d * 2 ^ q → q ≡ b / 2 ^ 52 - 1 → b + 1 < infinityBits → val (b + 1) ≡ (d + 1) * 2 ^ q
-step-up b d q worth is h = val-step b h ∙ rw (worth, ← is) (omega arith)
+module _ (b d q : ℕ) (worth : val b ≡ d * 2 ^ q) (is : q ≡ b / 2 ^ 52 - 1) where
+  -- one step up from a value at the places q
+  step-up : b < infinityBits → val (b + 1) ≡ (d + 1) * 2 ^ q
+  step-up h = val-step b h ∙ rw (worth, ← is) (omega arith)
+
+  -- and another, which is no shorter
+  steps-up : b + 1 < infinityBits → (d + 2) * 2 ^ q ≤ val (b + 2)
+  steps-up h =
+      let two : b + 2 ≡ b + 1 + 1 = omega arith in
+      let places : q ≤ (b + 1) / 2 ^ 52 - 1 = omega arith in
+      rw (two, val-step (b + 1) h, step-up (omega arith)) (omega (arith, pow-mono places))
 
 pub scaled-small : (b : ℕ) → b < 2 ^ 52 → Scaled b b 0
 scaled-small b h =
@@ -25,8 +33,8 @@ scaled-small b h =
       small = omega arith;
       low = omega arith;
       some = λ g. g;
-      full = λ g. g;
-      next = λ g. step-up b b 0 worth (omega arith) g;
+      next = step-up b b 0 worth (omega arith) (omega arith);
+      after = λ g. steps-up b b 0 worth (omega arith) g;
       last = λ g. absurd (not-le-of-lt h (le-of-lt g));
     }
 
@@ -42,8 +50,8 @@ scaled-normal b h g =
       small = omega arith;
       low = omega arith;
       some = λ _. omega arith;
-      full = λ _. omega arith;
-      next = λ n. step-up b (2 ^ 52 + b % 2 ^ 52) (b / 2 ^ 52 - 1) (normal-worth b h g) refl n;
+      next = step-up b (2 ^ 52 + b % 2 ^ 52) (b / 2 ^ 52 - 1) (normal-worth b h g) refl g;
+      after = λ n. steps-up b (2 ^ 52 + b % 2 ^ 52) (b / 2 ^ 52 - 1) (normal-worth b h g) refl n;
       last = λ more. last-worth more;
     }
   where
@@ -53,10 +61,37 @@ scaled-normal b h g =
         let digits : 2 ^ 52 + (b - 1) % 2 ^ 52 ≡ 2 ^ 52 + b % 2 ^ 52 - 1 = omega arith in
         normal-worth (b - 1) (omega arith) (omega arith) ∙ rw (field, digits)
 
+-- ---- the edges around it
+
+module _ (b m q : ℕ) (r : Scaled b m q) where
+  pub edge-over : edge (b + 1) ≡ (2 * m + 1) * 2 ^ q
+  unfolding edge
+  edge-over =
+      let below : b + 1 - 1 ≡ b = omega arith in
+      rw (below, r .worth, r .next) (omega arith)
+
+  pub edge-after : b + 1 < infinityBits → (2 * m + 1 + 2) * 2 ^ q ≤ edge (b + 1 + 1)
+  unfolding edge
+  edge-after h =
+      let below : b + 1 + 1 - 1 ≡ b + 1 = omega arith in
+      let two : b + 1 + 1 ≡ b + 2 = omega arith in
+      rw (below, two, r .next) (omega (arith, r .after h))
+
+  pub edge-under : 2 ^ 52 < m → edge b ≡ (2 * m - 1) * 2 ^ q
+  unfolding edge
+  edge-under h = sums m (2 ^ q) (omega arith) (rw (r .last h, r .worth))
+    where
+      sums : (d p : ℕ) → 0 < d → val (b - 1) + val b ≡ (d - 1) * p + d * p → val (b - 1) + val b ≡ (2 * d - 1) * p
+      sums zero p hd e = absurd (lt-irrefl 0 hd)
+      sums (suc d) p hd e =
+          let one : suc d - 1 ≡ d = omega arith in
+          let both : 2 * suc d - 1 ≡ d + suc d = omega arith in
+          e ∙ rw (one, both) (omega arith)
+
 -- ---- the test
 
 -- (m * 2 ^ q) ^ k is m ^ k, and q * k places more
-pub power-of-scaled : (m q k : ℕ) → (m * 2 ^ q) ^ k ≡ m ^ k * 2 ^ (q * k)
+power-of-scaled : (m q k : ℕ) → (m * 2 ^ q) ^ k ≡ m ^ k * 2 ^ (q * k)
 power-of-scaled m q zero =
     let none : q * 0 ≡ 0 = omega arith in
     rw (pow-zero (m * 2 ^ q), pow-zero m, none)
@@ -68,19 +103,12 @@ power-of-scaled m q (suc k) =
     ∙ ap (λ (n : ℕ). n * 2 ^ (q * k + q)) (sym (pow-suc m k))
     ∙ ap (λ (n : ℕ). m ^ suc k * 2 ^ n) (omega arith)
 
-module _ (k b m q n g : ℕ) (worth : val b ≡ m * 2 ^ q) where
-  -- the tested number is m ^ k * n, with all its places
-  pub tested-is : edge false b ^ k * (n * 2 ^ g) ≡ m ^ k * n * 2 ^ ((q + 1) * k + g)
-  unfolding edge
-  tested-is =
-      ap (λ (v : ℕ). (2 * v) ^ k * (n * 2 ^ g)) worth
-      ∙ ap (λ (v : ℕ). v ^ k * (n * 2 ^ g)) double
-      ∙ ap (λ (v : ℕ). v * (n * 2 ^ g)) (power-of-scaled m (q + 1) k)
-      ∙ mul-mul-mul-comm (m ^ k) (2 ^ ((q + 1) * k)) n (2 ^ g)
-      ∙ ap (λ (v : ℕ). m ^ k * n * v) (sym (pow-add 2 ((q + 1) * k) g))
-    where
-      double : 2 * (m * 2 ^ q) ≡ m * 2 ^ (q + 1)
-      double = rw (pow-add 2 q 1) (omega arith)
+-- the tested number is m ^ k * n, with all its places
+pub tested-is : (k m q n g : ℕ) → (m * 2 ^ q) ^ k * (n * 2 ^ g) ≡ m ^ k * n * 2 ^ (q * k + g)
+tested-is k m q n g =
+    ap (λ (v : ℕ). v * (n * 2 ^ g)) (power-of-scaled m q k)
+    ∙ mul-mul-mul-comm (m ^ k) (2 ^ (q * k)) n (2 ^ g)
+    ∙ ap (λ (v : ℕ). m ^ k * n * v) (sym (pow-add 2 (q * k) g))
 
 -- a * 2 ^ u against 2 ^ l, by the places that are left
 drop-places : (a u l : ℕ) → u ≤ l → leb (a * 2 ^ u) (2 ^ l) ≡ leb a (2 ^ (l - u))
@@ -94,24 +122,25 @@ drop-places a u l h = by-test (leb a (2 ^ (l - u))) refl
     by-test false e =
         rw places (lt-leb (a * 2 ^ u) (2 ^ (l - u) * 2 ^ u) (mul-lt-mul-of-pos-right (leb-false a (2 ^ (l - u)) e) (pow-pos u)))
 
-pow-positive : (m k : ℕ) → 0 < m → 0 < m ^ k
-pow-positive m k h = one-le-pow k m h
+-- by the pattern below
+module _ (k b m q n g : ℕ) (r : Scaled (b - 1) m q) (asked : Asked k n g) (hb : 0 < b) (in-range : b ≤ infinityBits) where
+  edge-is : edge b ≡ (2 * m + 1) * 2 ^ q
+  edge-is = let back : b ≡ b - 1 + 1 = omega arith in ap edge back ∙ edge-over (b - 1) m q r
 
-module _ (k b m q n g : ℕ) (r : Scaled b m q) (asked : Asked k n g) (hb : 0 < b) (finite : b < infinityBits) where
-  reaches-is : reachesDown k n g b ≡ leb (m ^ k * n * 2 ^ ((q + 1) * k + g)) (2 ^ (1075 * k + 1074))
+  reaches-is : reachesRoot k n g b ≡ leb ((2 * m + 1) ^ k * n * 2 ^ (q * k + g)) (2 ^ (1075 * k + 1074))
   unfolding reaches
-  reaches-is = rw (lt-ltb b infinityBits finite, tested-is k b m q n g (r .worth))
+  reaches-is = rw (le-leb b infinityBits in-range, edge-is, tested-is k (2 * m + 1) q n g)
 
-  pub reaches-by-power : (q + 1) * k + g ≤ 1075 * k + 1074 → reachesDown k n g b ≡ leb (m ^ k * n) (2 ^ (1075 * k + 1074 - ((q + 1) * k + g)))
-  reaches-by-power h = reaches-is ∙ drop-places (m ^ k * n) ((q + 1) * k + g) (1075 * k + 1074) h
+  pub reaches-by-power : q * k + g ≤ 1075 * k + 1074 → reachesRoot k n g b ≡ leb ((2 * m + 1) ^ k * n) (2 ^ (1075 * k + 1074 - (q * k + g)))
+  reaches-by-power h = reaches-is ∙ drop-places ((2 * m + 1) ^ k * n) (q * k + g) (1075 * k + 1074) h
 
-  pub too-far : 1075 * k + 1074 < (q + 1) * k + g → reachesDown k n g b ≡ false
+  pub too-far : 1075 * k + 1074 < q * k + g → reachesRoot k n g b ≡ false
   too-far h =
       reaches-is
-      ∙ lt-leb (m ^ k * n * 2 ^ ((q + 1) * k + g)) (2 ^ (1075 * k + 1074))
+      ∙ lt-leb ((2 * m + 1) ^ k * n * 2 ^ (q * k + g)) (2 ^ (1075 * k + 1074))
       (lt-of-lt-of-le (pow-lt h)
-      (rw (mul-comm (m ^ k * n) (2 ^ ((q + 1) * k + g))) (le-mul-of-pos-right (2 ^ ((q + 1) * k + g)) (mul-pos (pow-positive m k (r .some hb)) (asked .some)))))
+      (rw (mul-comm ((2 * m + 1) ^ k * n) (2 ^ (q * k + g))) (le-mul-of-pos-right (2 ^ (q * k + g)) (mul-pos (one-le-pow k (2 * m + 1) (omega arith)) (asked .some)))))
 
 -- a pattern's places, k times, are a number of the code
-pub few-places : (q k : ℕ) → q < 2046 → k ≤ 7 → (q + 1) * k ≤ 2046 * 7
-few-places q k hq hk = mul-le-mul {n₂ = 2046} {m₂ = 7} (omega arith) hk
+pub few-places : (q k : ℕ) → q < 2046 → k ≤ 7 → q * k ≤ 2046 * 7
+few-places q k hq hk = mul-le-mul (le-of-lt hq) hk

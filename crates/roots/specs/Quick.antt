@@ -1,7 +1,7 @@
 -- What the quick test of a guess goes by: upper parts of products, and where the limit lies among them.
 use mathlib.Core.Path.{_≡_}
 use Prim.Native.Nat.{ℕ, _+_, _*_, _^_, _≤_, _<_}
-use Rattle.roots.specs.Scaled.{roundedDown}
+use Rattle.roots.specs.Scaled.{nearestRoot}
 use Rattle.roots.specs.declared.root_quick.Place.{Place}
 use Rattle.roots.specs.declared.root_quick.Place.the-variants.{Here, Below, Unknown}
 use Rattle.roots.specs.declared.root_quick.Settled.{Settled}
@@ -17,9 +17,9 @@ pub record Near (e k h : ℕ) : Type 0 where
   pub low : h * (2 ^ 64) ^ k ≤ e
   pub up : e ≤ (h + 3 * k) * (2 ^ 64) ^ k
 
--- the limit of the test, 2 ^ (1075 k + 1074), is p with the places of those upper parts: 11 for each factor, and q + 1 for a pattern and g for x
+-- the limit of the test, 2 ^ (1075 k + 1074), is p with the places of those upper parts: 10 for each factor and 11 for n, and q for a middle and g for x
 abbrev pub LimitIs : ℕ → ℕ → ℕ → ℕ → Type 0
-LimitIs k q g p = p * (2 ^ 64) ^ k * 2 ^ ((q + 1) * k + g) ≡ 2 ^ (1075 * k + 1074) * 2 ^ (11 * (k + 1))
+LimitIs k q g p = p * (2 ^ 64) ^ k * 2 ^ (q * k + g) ≡ 2 ^ (1075 * k + 1074) * 2 ^ (10 * k + 11)
 
 abbrev pub placed : ℕ → ℕ → ℕ → ℕ → Place → Type 0
 placed h p slack reach Here = (h + slack ≤ p) × (p < h + reach)
@@ -28,5 +28,5 @@ placed h p slack reach Unknown = Unit
 
 -- where the test is sure, it gives the root
 abbrev pub settled : ℕ → ℕ → ℕ → Settled → Type 0
-settled k digits places (At c) = c ≡ roundedDown k digits places
+settled k digits places (At c) = c ≡ nearestRoot k digits places
 settled k digits places Unsure = Unit

@@ -1,3 +1,4 @@
 -- What is promised of the two roots: what they mean, and that nothing else meets their contracts.
 pub mod Meaning
+pub mod Overflow
 pub mod Unique

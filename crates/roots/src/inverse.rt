@@ -1,8 +1,8 @@
-// The inverse k-th root of a double, k from 1 to 7, rounded down.
+// The inverse k-th root of a double, k from 1 to 7, to the nearest.
 ghost use mathlib.Core.Path.{_≡_};
 ghost use Prim.Native.Nat.{_≤_};
 ghost use Rattle.roots.specs.Roots.{inverseRoot, inverseRootOf, rootSaid};
-ghost use Rattle.roots.specs.Scaled.{Asked, roundedDown};
+ghost use Rattle.roots.specs.Scaled.{Asked, nearestRoot};
 use crate::Root;
 use crate::root_guess::guess;
 use crate::root_quick::Settled;
@@ -13,8 +13,8 @@ use crate::units::units_of;
 
 const INFINITY_BITS: u64 = 0x7ff0_0000_0000_0000;
 
-// x to the power -1/k: the greatest finite double r with r^k * x <= 1. +0 and -0 give +infinity, +infinity gives +0,
-// a number below 0 and NaN give NaN. k outside 1 to 7 is refused.
+// x to the power -1/k, to the nearest double, and to +infinity from the middle above the largest on. +0 and -0 give +infinity,
+// +infinity gives +0, a number below 0 and NaN give NaN. k outside 1 to 7 is refused.
 pub fn inverse_root(k: usize, x: f64) -> Root
     ensures { λ r. ⌜ rootSaid r ≡ inverseRootOf k x ⌝ }
 {
@@ -30,7 +30,7 @@ pub fn inverse_root(k: usize, x: f64) -> Root
 // The pattern of the inverse k-th root of x: a guess is settled by a quick test, or else searched from.
 fn pattern_of_root(k: usize, x: Units) -> u64
     requires { ⌜ Asked k (x .digits) (x .places) ⌝ }
-    ensures { λ r. ⌜ r ≡ roundedDown k (x .digits) (x .places) ⌝ }
+    ensures { λ r. ⌜ r ≡ nearestRoot k (x .digits) (x .places) ⌝ }
 {
     let b = guess(k, x);
     match settle(k, x, b) {

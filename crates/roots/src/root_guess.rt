@@ -26,7 +26,7 @@ fn power(r: f64, k: usize) -> f64 {
 }
 
 // The inverse k-th root of y = m * 2^s, m from 1 to 2 and s below k: a value of the curve, then two steps of Newton's method, the first
-// with the next term of the series. A quarter of a place is taken off, since the quick test looks at the guess and at the pattern below it.
+// with the next term of the series. Half a place is added, since the quick test looks at the guess and at the pattern below it.
 fn near_root(k: usize, m: f64, s: usize, y: f64) -> f64
     requires { ⌜ (1 ≤ k) × (k ≤ 7) × (s < k) ⌝ }
 {
@@ -36,7 +36,7 @@ fn near_root(k: usize, m: f64, s: usize, y: f64) -> f64
     let d = 1.0 - y * power(p, k);
     let r = p + p * ((d * inverse) * (1.0 + d * (0.5 * (1.0 + inverse))));
     let e = 1.0 - y * power(r, k);
-    r + (r * (e * inverse) - 2.7755575615628914e-17)
+    r + (r * (e * inverse) + 5.551115123125783e-17)
 }
 
 // The pattern of r * 2^(places - 2100), or the nearest finite one.

@@ -1,27 +1,29 @@
-// Whether a bit pattern lies at or below the k-th root of 1 / x, x being n * 2^g units of 2^-1074; and the greatest that does.
+// Whether the edge of a bit pattern, the middle between it and the one below, lies at or below the k-th root of 1 / x, x being n * 2^g units of
+// 2^-1074; and the greatest pattern whose edge does: the root to the nearest.
 ghost use mathlib.Core.Path.{_≡_};
-ghost use Prim.Native.Nat.{_+_, _^_, _<_};
+ghost use Prim.Native.Nat.{_+_, _^_, _≤_, _<_};
 ghost use Rattle.roots.specs.Roots.{infinityBits};
-ghost use Rattle.roots.specs.Scaled.{Asked, reachesDown, roundedDown};
+ghost use Rattle.roots.specs.Scaled.{Asked, reachesRoot, nearestRoot};
 use crate::power::at_most_power;
 use crate::units::Units;
 use crate::units::units_of;
 
-const INFINITY_BITS: u64 = 0x7ff0_0000_0000_0000;
+// the first pattern of a NaN
+const PAST_INFINITY: u64 = 0x7ff0_0000_0000_0001;
 
-// Whether the value of b, its k-th power times x, is at most 1.
-fn reaches_rounding_down(k: usize, x: Units, b: u64) -> bool
-    requires { ⌜ Asked k (x .digits) (x .places) × (0 < b) × (b < infinityBits) ⌝ }
-    ensures { λ r. ⌜ r ≡ reachesDown k (x .digits) (x .places) b ⌝ }
+// Whether the edge of b, its k-th power times x, is at most 1. In half units it is one more than twice the value below.
+fn reaches(k: usize, x: Units, b: u64) -> bool
+    requires { ⌜ Asked k (x .digits) (x .places) × (0 < b) × (b ≤ infinityBits) ⌝ }
+    ensures { λ r. ⌜ r ≡ reachesRoot k (x .digits) (x .places) b ⌝ }
 {
-    let r = units_of(b);
+    let r = units_of(b - 1);
     let power = k as u64;
     let limit = 1075 * power + 1074;
-    let used = (r.places + 1) * power + x.places;
+    let used = r.places * power + x.places;
     if limit < used {
         return false;
     }
-    at_most_power(r.digits, k, x.digits, limit - used)
+    at_most_power(2 * r.digits + 1, k, x.digits, limit - used)
 }
 
 // A place to try between two others: the one proposed, or the middle where that is not between them.
@@ -44,15 +46,15 @@ fn lower(b: u64, stride: u64) -> u64 {
 // The greatest pattern that reaches, by a search from a guess on with strides that double. Any guess will do.
 pub(crate) fn greatest_reaching(k: usize, x: Units, guess: u64) -> u64
     requires { ⌜ Asked k (x .digits) (x .places) ⌝ }
-    ensures { λ r. ⌜ r ≡ roundedDown k (x .digits) (x .places) ⌝ }
+    ensures { λ r. ⌜ r ≡ nearestRoot k (x .digits) (x .places) ⌝ }
 {
     let mut lo = 0;
-    let mut hi = INFINITY_BITS;
+    let mut hi = PAST_INFINITY;
     let mut next = guess;
     let mut stride: u64 = 1;
     while lo + 1 < hi {
         let b = between(lo, hi, next);
-        if reaches_rounding_down(k, x, b) {
+        if reaches(k, x, b) {
             lo = b;
             next = b + stride;
         } else {

@@ -62,20 +62,20 @@ near-more e f k h r small near high =
 
 -- ---- neighbours
 
--- (m + 1) ^ k is at least m ^ k * (1 + k / m)
-pub next-grows : (m k : ℕ) → m ^ k * (m + k) ≤ (m + 1) ^ k * m
-next-grows m zero = rw (pow-zero, pow-zero) (omega arith)
+-- (m + 2) ^ k is at least m ^ k * (1 + 2 k / m)
+pub next-grows : (m k : ℕ) → m ^ k * (m + 2 * k) ≤ (m + 2) ^ k * m
+next-grows m zero = rw (pow-zero m, pow-zero (m + 2)) (omega arith)
 next-grows m (suc k) =
-    let here : m ^ k * (m + k) * (m + 1) ≤ (m + 1) ^ k * m * (m + 1) = mul-le-mul-right (m + 1) (next-grows m k) in
-    rw (pow-suc m k, pow-suc (m + 1) k) (omega arith)
+    let here : m ^ k * (m + 2 * k) * (m + 2) ≤ (m + 2) ^ k * m * (m + 2) = mul-le-mul-right (m + 2) (next-grows m k) in
+    rw (pow-suc m k, pow-suc (m + 2) k) (omega arith)
 
--- l ^ k is at most (l + 1) ^ k / (1 + k / (l + 1))
-pub last-shrinks : (l k : ℕ) → l ^ k * (l + 1 + k) ≤ (l + 1) ^ k * (l + 1)
-last-shrinks l zero = rw (pow-zero, pow-zero) (omega arith)
+-- l ^ k is at most (l + 2) ^ k / (1 + 2 k / (l + 2))
+pub last-shrinks : (l k : ℕ) → l ^ k * (l + 2 + 2 * k) ≤ (l + 2) ^ k * (l + 2)
+last-shrinks l zero = rw (pow-zero l, pow-zero (l + 2)) (omega arith)
 last-shrinks l (suc k) =
-    let here : l ^ k * (l + 1 + k) * l ≤ (l + 1) ^ k * (l + 1) * l = mul-le-mul-right l (last-shrinks l k) in
-    let less : l ^ k * l ≤ (l + 1) ^ k * (l + 1) = mul-le-mul (pow-le-pow-left (omega arith) k) (omega arith) in
-    rw (pow-suc l k, pow-suc (l + 1) k) (omega arith)
+    let here : l ^ k * (l + 2 + 2 * k) * l ≤ (l + 2) ^ k * (l + 2) * l = mul-le-mul-right l (last-shrinks l k) in
+    let less : l ^ k * l ≤ (l + 2) ^ k * (l + 2) = mul-le-mul (pow-le-pow-left (omega arith) k) (omega arith) in
+    rw (pow-suc l k, pow-suc (l + 2) k) (omega arith)
 
 -- ---- the limit
 
@@ -91,7 +91,7 @@ module _ (c s u w p : ℕ) (limit : p * w * u ≡ c * s) where
       let all : p * w * u < f * s * u = mul-lt-mul-of-pos-right h some in
       lt-of-mul-lt-mul-right s (lt-of-le-of-lt (le-of-eq (sym limit)) (lt-of-lt-of-le all (le-of-eq (mul-right-comm f s u))))
 
--- the upper part h, the limit p and the next pattern's distance, k * v at least, as products with m and m + k
+-- the upper part h, the limit p and the next middle's distance, k * v at least, as products with m and m + k
 pub next-over : (p h m k v : ℕ) → v * (m + k) ≤ p → 0 < m → p < h + k * v → p * m < h * (m + k)
 next-over p h m k v hv some h' =
     let one : k * (v * (m + k)) ≤ k * p = mul-le-mul-left k hv in
@@ -121,27 +121,27 @@ last-within w p h m k s f g hm up shrinks under =
     let all : g * s * (m + k) ≤ p * w * (m + k) = omega arith in
     le-of-mul-le-mul-right all (omega arith)
 
-pub limit-is : (k q g w : ℕ) → w + ((q + 1) * k + g) ≡ 1022 * k + 1085 → LimitIs k q g (2 ^ w)
+pub limit-is : (k q g w : ℕ) → w + (q * k + g) ≡ 1021 * k + 1085 → LimitIs k q g (2 ^ w)
 limit-is k q g w e =
-    let used = (q + 1) * k + g in
-    let places : w + 64 * k + used ≡ 1075 * k + 1074 + 11 * (k + 1) = omega arith in
+    let used = q * k + g in
+    let places : w + 64 * k + used ≡ 1075 * k + 1074 + (10 * k + 11) = omega arith in
     ap (λ (n : ℕ). 2 ^ w * n * 2 ^ used) (power-of-power 64 k)
     ∙ ap (λ (n : ℕ). n * 2 ^ used) (sym (pow-add 2 w (64 * k)))
     ∙ sym (pow-add 2 (w + 64 * k) used)
     ∙ ap (λ (n : ℕ). 2 ^ n) places
-    ∙ pow-add 2 (1075 * k + 1074) (11 * (k + 1))
+    ∙ pow-add 2 (1075 * k + 1074) (10 * k + 11)
 
 -- a limit of 0, which stands for none, is never met
-pub some-limit : (p h k v m : ℕ) → v * (m + k) ≤ p → 0 < k → h + 3 * k ≤ p + k * v → 0 < p
-some-limit zero h k v m reach hk close =
+pub some-limit : (p h s k v m : ℕ) → v * (m + k) ≤ p → 0 < m → 0 < s → h + s ≤ p + k * v → 0 < p
+some-limit zero h s k v m reach hm hs close =
     let one : v ≤ v * (m + k) = le-mul-of-pos-right v (omega arith) in
     let none : v ≡ 0 = omega arith in
     let gone : k * v ≡ 0 = rw none (mul-zero k) in
     absurd (omega arith)
-some-limit (suc p) h k v m reach hk close = omega arith
+some-limit (suc p) h s k v m reach hm hs close = omega arith
 
--- the distance to the next pattern is a small number
-pub small-reach : (p m k : ℕ) → p < 2 ^ 64 → 2 ^ 52 ≤ m → k ≤ 7 → k * (p / (m + k)) < 2 ^ 32
+-- the distance to the next middle is a small number
+pub small-reach : (p m k : ℕ) → p < 2 ^ 64 → 2 ^ 52 ≤ m → k ≤ 14 → k * (p / (m + k)) < 2 ^ 32
 small-reach p m k hp hm hk =
     let one : p / (m + k) * 2 ^ 52 ≤ p / (m + k) * (m + k) = mul-le-mul-left (p / (m + k)) (omega arith) in
     let few : p / (m + k) ≤ 4096 = omega (arith, div-mul-le-self p (m + k)) in

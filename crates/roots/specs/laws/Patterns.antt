@@ -2,13 +2,13 @@
 -- From one pattern to the next the value grows by one step, 2 ^ q from the field q + 1 on (`val-step`): the order and the middles follow.
 use mathlib.Core.Path.{_≡_, refl, sym, ap, _∙_, subst}
 use mathlib.Core.Logic.{_⊎_, inl, inr}
-use mathlib.Core.Bool.{Bool, true, false, _&&_}
+use mathlib.Core.Bool.{Bool, false, _&&_}
 use Prim.Native.Nat.{ℕ, zero, suc, _+_, _-_, _*_, _/_, _%_, _^_, _≤_, _<_, zero-le}
-use native.Mathlib.Nat.{lt-irrefl, lt-of-le-of-lt, mul-div-cancel, mod-eq-of-lt, zero-add, add-assoc, mul-one, div-add-mod', eq-or-lt-of-le, mod-lt, lt-trans, le-of-lt, le-of-eq, le-of-suc-le-suc, le-antisymm, ne-of-lt, le-refl, lt-of-not-le, not-le-of-lt, zero-mul, zero-div, div-lt-iff-lt-mul, mul-lt-mul-of-pos-right, mul-right-comm, mul-le-mul-left, add-le-add}
+use native.Mathlib.Nat.{lt-irrefl, lt-of-le-of-lt, mul-div-cancel, mod-eq-of-lt, zero-add, add-assoc, mul-one, div-add-mod', eq-or-lt-of-le, mod-lt, lt-trans, le-of-lt, le-of-eq, le-of-suc-le-suc, le-antisymm, ne-of-lt, le-refl, lt-of-not-le, not-le-of-lt, zero-mul, zero-div, div-lt-iff-lt-mul, mul-lt-mul-of-pos-right, mul-right-comm, add-le-add}
 use native.Mathlib.Numerals.{add-one}
 use native.Mathlib.Decide.{le-ind}
 use native.Mathlib.Omega.{arith}
-use lib.Dec.{T, eqb, leb, ltb, ltb→lt}
+use lib.Dec.{T, eqb, leb, ltb, ltb→lt, lit<}
 use lib.IntN.{ℤ}
 use lib.Arith.{digits-div, digits-mod}
 use lib.Pow.{pow-add, pow-pos}
@@ -72,39 +72,54 @@ small-step t h = pick (eq-or-lt-of-le h)
         ap val end ∙ val-normal 0 0 (omega arith) (omega arith) ∙ omega arith
     pick (inr l) = val-small (t + 1) (omega arith)
 
-normal-step : (q t : ℕ) → q < 2046 → t < 2 ^ 52 → (q + 1) * 2 ^ 52 + t + 1 < infinityBits → val ((q + 1) * 2 ^ 52 + t + 1) ≡ (2 ^ 52 + t + 1) * 2 ^ q
-normal-step q t hq ht hb = pick (eq-or-lt-of-le ht)
+-- the last value, infinity's
+val-infinity : val infinityBits ≡ 2 ^ 2098
+unfolding val unitsOf ofBits
+val-infinity = refl
+
+first-of-field : (q : ℕ) → q < 2046 → val ((q + 1 + 1) * 2 ^ 52 + 0) ≡ 2 ^ 53 * 2 ^ q
+first-of-field q hq = pick (eq-or-lt-of-le hq)
+  where
+    pick : (suc q ≡ 2046) ⊎ (suc q < 2046) → val ((q + 1 + 1) * 2 ^ 52 + 0) ≡ 2 ^ 53 * 2 ^ q
+    pick (inl e) =
+        let end : (q + 1 + 1) * 2 ^ 52 + 0 ≡ infinityBits = omega arith in
+        let last : q ≡ 2045 = omega arith in
+        rw (end, last) val-infinity
+    pick (inr l) = val-normal (q + 1) 0 (omega arith) (omega arith) ∙ rw (pow-add 2 q 1) (omega arith)
+
+normal-step : (q t : ℕ) → q < 2046 → t < 2 ^ 52 → val ((q + 1) * 2 ^ 52 + t + 1) ≡ (2 ^ 52 + t + 1) * 2 ^ q
+normal-step q t hq ht = pick (eq-or-lt-of-le ht)
   where
     pick : (suc t ≡ 2 ^ 52) ⊎ (suc t < 2 ^ 52) → val ((q + 1) * 2 ^ 52 + t + 1) ≡ (2 ^ 52 + t + 1) * 2 ^ q
     pick (inl e) =
         let end : (q + 1) * 2 ^ 52 + t + 1 ≡ (q + 1 + 1) * 2 ^ 52 + 0 = omega arith in
-        let digits : 2 ^ 52 + t + 1 ≡ 2 ^ 52 * 2 = omega arith in
-        ap val end ∙ val-normal (q + 1) 0 (omega arith) (omega arith) ∙ rw (digits, pow-add 2 q 1) (omega arith)
+        let digits : 2 ^ 52 + t + 1 ≡ 2 ^ 53 = omega arith in
+        ap val end ∙ first-of-field q hq ∙ rw digits
     pick (inr l) = ap val (add-assoc ((q + 1) * 2 ^ 52) t 1) ∙ val-normal q (t + 1) hq (omega arith) ∙ rw add-assoc
 
 -- the next pattern's value is one step more: 1 unit where the field is 0 or 1, and twice as much with each field above
-pub val-step : (b : ℕ) → b + 1 < infinityBits → val (b + 1) ≡ val b + 2 ^ (b / 2 ^ 52 - 1)
-val-step b h = by-field (b / 2 ^ 52) (b % 2 ^ 52) (fields-of b) (mod-lt b (pow-pos 52)) h
+pub val-step : (b : ℕ) → b < infinityBits → val (b + 1) ≡ val b + 2 ^ (b / 2 ^ 52 - 1)
+val-step b h = by-field (b / 2 ^ 52) (b % 2 ^ 52) (fields-of b) (mod-lt b (pow-pos 52))
   where
-    by-field : (x t : ℕ) → x * 2 ^ 52 + t ≡ b → t < 2 ^ 52 → b + 1 < infinityBits → val (b + 1) ≡ val b + 2 ^ (x - 1)
-    by-field zero t e ht hb =
+    by-field : (x t : ℕ) → x * 2 ^ 52 + t ≡ b → t < 2 ^ 52 → val (b + 1) ≡ val b + 2 ^ (x - 1)
+    by-field zero t e ht =
         let is : b ≡ t = omega arith in
         rw is (small-step t ht ∙ ap (λ (v : ℕ). v + 1) (sym (val-small t ht)))
-    by-field (suc q) t e ht hb =
+    by-field (suc q) t e ht =
         let is : b ≡ (q + 1) * 2 ^ 52 + t = omega arith in
         let field : suc q - 1 ≡ q = omega arith in
         let here : val b ≡ (2 ^ 52 + t) * 2 ^ q = ap val is ∙ val-normal q t (omega arith) ht in
-        let next : val (b + 1) ≡ (2 ^ 52 + t + 1) * 2 ^ q = ap (λ (n : ℕ). val (n + 1)) is ∙ normal-step q t (omega arith) ht (omega arith) in
+        let next : val (b + 1) ≡ (2 ^ 52 + t + 1) * 2 ^ q = ap (λ (n : ℕ). val (n + 1)) is ∙ normal-step q t (omega arith) ht in
         rw field (omega (arith, here, next))
 
 -- a greater pattern is a greater value
-pub val-mono : (b c : ℕ) → b < c → c < infinityBits → val b < val c
-val-mono b c h = le-ind (λ (m : ℕ). m < infinityBits → val b < val m) (step b) (λ m _ below hm. lt-trans (below (omega arith)) (step m hm)) c h
+pub val-mono : (b c : ℕ) → b < c → c ≤ infinityBits → val b < val c
+val-mono b c h = le-ind (λ (m : ℕ). m ≤ infinityBits → val b < val m) (step b) (λ m _ below hm. lt-trans (below (omega arith)) (step m hm)) c h
   where
-    step : (m : ℕ) → suc m < infinityBits → val m < val (suc m)
+    step : (m : ℕ) → suc m ≤ infinityBits → val m < val (suc m)
     step m hm = rw (← add-one m) (omega (arith, val-step m (omega arith), pow-pos (m / 2 ^ 52 - 1)))
 
-pub val-le : (b c : ℕ) → b ≤ c → c < infinityBits → val b ≤ val c
+pub val-le : (b c : ℕ) → b ≤ c → c ≤ infinityBits → val b ≤ val c
 val-le b c h hc = pick (eq-or-lt-of-le h)
   where
     pick : (b ≡ c) ⊎ (b < c) → val b ≤ val c
@@ -112,10 +127,10 @@ val-le b c h hc = pick (eq-or-lt-of-le h)
     pick (inr l) = le-of-lt (val-mono b c l hc)
 
 -- and a greater value is that of a greater pattern
-pub val-less : (b c : ℕ) → b < infinityBits → val b < val c → b < c
+pub val-less : (b c : ℕ) → b ≤ infinityBits → val b < val c → b < c
 val-less b c hb h = lt-of-not-le (λ (l : c ≤ b). not-le-of-lt h (val-le c b l hb))
 
-pub val-only : (b c : ℕ) → b < infinityBits → c < infinityBits → val b ≡ val c → b ≡ c
+pub val-only : (b c : ℕ) → b ≤ infinityBits → c ≤ infinityBits → val b ≡ val c → b ≡ c
 val-only b c hb hc e =
     let not-above : b ≤ c = le-of-suc-le-suc (lt-of-not-le (λ (l : c < b). ne-of-lt (val-mono c b l hb) (sym e))) in
     let not-below : c ≤ b = le-of-suc-le-suc (lt-of-not-le (λ (l : b < c). ne-of-lt (val-mono b c l hc) e)) in
@@ -147,7 +162,7 @@ units-zero s e = rw (zero-mul, zero-mul, zero-div)
 
 pub pattern-positive : (b : ℕ) → 0 < b → b < infinityBits → (m : ℕ) × (e : ℤ) × (ofBits binary64 b ≡ fin false (suc m) e)
 unfolding val
-pattern-positive b hb h = by-digits (pattern-finite b h) (val-mono 0 b hb h)
+pattern-positive b hb h = by-digits (pattern-finite b h) (val-mono 0 b hb (le-of-lt h))
   where
     by-digits : ((m : ℕ) × (e : ℤ) × (ofBits binary64 b ≡ fin false m e)) → val 0 < val b → (m : ℕ) × (e : ℤ) × (ofBits binary64 b ≡ fin false (suc m) e)
     by-digits (zero, e, is) above = absurd (lt-irrefl 0 (lt-of-le-of-lt zero-le (rw (is, units-zero) at above)))
@@ -190,63 +205,47 @@ bits-below m e f =
 
 -- ---- edges
 
--- rounding down, the edge of a pattern is its value; at a normal one
-pub edge-down : (q t : ℕ) → q < 2046 → t < 2 ^ 52 → edge false ((q + 1) * 2 ^ 52 + t) ≡ (2 ^ 52 + t) * 2 ^ (q + 1)
+-- the edge of the next pattern is half a step above the value; at a normal one
+pub edge-next : (q t : ℕ) → q < 2046 → t < 2 ^ 52 → edge ((q + 1) * 2 ^ 52 + t + 1) ≡ (2 * (2 ^ 52 + t) + 1) * 2 ^ q
 unfolding edge
-edge-down q t hq ht = rw (val-normal q t hq ht, pow-add 2 q 1) (omega arith)
-
--- to the nearest, the edge of the next pattern is half a step above the value; at a normal one
-pub edge-next : (q t : ℕ) → q < 2046 → t < 2 ^ 52 → (q + 1) * 2 ^ 52 + t + 1 < infinityBits → edge true ((q + 1) * 2 ^ 52 + t + 1) ≡ (2 * (2 ^ 52 + t) + 1) * 2 ^ q
-unfolding edge
-edge-next q t hq ht hb =
+edge-next q t hq ht =
     let b = (q + 1) * 2 ^ 52 + t in
     let below : b + 1 - 1 ≡ b = omega arith in
-    rw (below, val-normal q t hq ht, normal-step q t hq ht hb) (omega arith)
+    rw (below, val-normal q t hq ht, normal-step q t hq ht) (omega arith)
 
 -- and the edge of the pattern itself is half a step below it, but at the first of an exponent, where the step below is half as wide
-pub edge-here : (q t : ℕ) → q < 2046 → t < 2 ^ 52 → 0 < t → edge true ((q + 1) * 2 ^ 52 + t) ≡ (2 * (2 ^ 52 + t) - 1) * 2 ^ q
+pub edge-here : (q t : ℕ) → q < 2046 → t < 2 ^ 52 → 0 < t → edge ((q + 1) * 2 ^ 52 + t) ≡ (2 * (2 ^ 52 + t) - 1) * 2 ^ q
 edge-here q t hq ht above =
     let is : (q + 1) * 2 ^ 52 + t ≡ (q + 1) * 2 ^ 52 + (t - 1) + 1 = omega arith in
     let digits : 2 * (2 ^ 52 + (t - 1)) + 1 ≡ 2 * (2 ^ 52 + t) - 1 = omega arith in
-    ap (edge true) is ∙ edge-next q (t - 1) hq (omega arith) (omega arith) ∙ ap (λ (n : ℕ). n * 2 ^ q) digits
-
-pub edge-first : (q : ℕ) → q < 2045 → edge true ((q + 1 + 1) * 2 ^ 52) ≡ (2 ^ 54 - 1) * 2 ^ q
-edge-first q hq =
-    let is : (q + 1 + 1) * 2 ^ 52 ≡ (q + 1) * 2 ^ 52 + (2 ^ 52 - 1) + 1 = omega arith in
-    ap (edge true) is ∙ edge-next q (2 ^ 52 - 1) (omega arith) (omega arith) (omega arith)
-
-pub edge-smallest : edge true (2 ^ 52) ≡ 2 ^ 53 - 1
-unfolding edge
-edge-smallest = rw (val-small (2 ^ 52 - 1) (omega arith), val-normal 0 0 (omega arith) (omega arith))
+    ap edge is ∙ edge-next q (t - 1) hq (omega arith) ∙ ap (λ (n : ℕ). n * 2 ^ q) digits
 
 -- the edges of the patterns whose field is 0
-pub edge-down-small : (t : ℕ) → t < 2 ^ 52 → edge false t ≡ 2 * t
-unfolding edge
-edge-down-small t h = ap (λ (v : ℕ). 2 * v) (val-small t h)
-
-pub edge-next-small : (t : ℕ) → t < 2 ^ 52 → edge true (t + 1) ≡ 2 * t + 1
+pub edge-next-small : (t : ℕ) → t < 2 ^ 52 → edge (t + 1) ≡ 2 * t + 1
 unfolding edge
 edge-next-small t h =
     let below : t + 1 - 1 ≡ t = omega arith in
     rw (below, val-small t h, small-step t h) (omega arith)
 
-pub edge-zero : (near : Bool) → edge near 0 ≡ 0
+pub edge-zero : edge 0 ≡ 0
 unfolding edge
-edge-zero true = rw (val-small 0 (omega arith))
-edge-zero false = rw (val-small 0 (omega arith))
+edge-zero = rw (val-small 0 (omega arith))
+
+-- infinity's: 2 ^ 1024 - 2 ^ 970, the middle between the largest finite value and 2 ^ 1024
+pub edge-infinity : edge infinityBits ≡ (2 ^ 54 - 1) * 2 ^ 2045
+edge-infinity = edge-next 2045 (2 ^ 52 - 1) (lit< tt) (lit< tt)
 
 -- edges rise with the patterns
-pub edge-mono : (near : Bool) (b c : ℕ) → b ≤ c → c < infinityBits → edge near b ≤ edge near c
+pub edge-mono : (b c : ℕ) → b ≤ c → c ≤ infinityBits → edge b ≤ edge c
 unfolding edge
-edge-mono true b c h hc = add-le-add (val-le (b - 1) (c - 1) (omega arith) (omega arith)) (val-le b c h hc)
-edge-mono false b c h hc = mul-le-mul-left 2 (val-le b c h hc)
+edge-mono b c h hc = add-le-add (val-le (b - 1) (c - 1) (omega arith) (omega arith)) (val-le b c h hc)
 
--- to the nearest, the edge lies at or above the middle between the value and any below it, and the next pattern's edge at or below the middle with any above it
-pub middle-below : (s r : ℕ) → s < r → r < infinityBits → val s + val r ≤ edge true r
+-- the edge lies at or above the middle between the value and any below it, and the next pattern's edge at or below the middle with any above it
+pub middle-below : (s r : ℕ) → s < r → r ≤ infinityBits → val s + val r ≤ edge r
 unfolding edge
 middle-below s r h hr = add-le-add (val-le s (r - 1) (omega arith) (omega arith)) (le-refl (val r))
 
-pub middle-above : (r s : ℕ) → r < s → s < infinityBits → edge true (r + 1) ≤ val r + val s
+pub middle-above : (r s : ℕ) → r < s → s ≤ infinityBits → edge (r + 1) ≤ val r + val s
 unfolding edge
 middle-above r s h hs =
     let here : r + 1 - 1 ≡ r = omega arith in

@@ -2,13 +2,14 @@
 -- the patterns; so the search by bits ends at the last pattern that passes, and whoever has one that passes next to one that fails has the root.
 use mathlib.Core.Path.{_≡_, refl, sym, ap, _∙_}
 use mathlib.Core.Bool.{Bool, true, false, true≢false}
-use Prim.Native.Nat.{ℕ, zero, suc, _+_, _-_, _*_, _^_, _≤_, _<_, zero-le}
-use native.Mathlib.Nat.{le-of-suc-le-suc, lt-irrefl, lt-of-not-le, lt-of-lt-of-le, le-trans, mul-le-mul-right, pow-le-pow-left, pow-suc, mul-zero, zero-mul, two-pow-succ}
+use Prim.Native.Nat.{ℕ, zero, suc, _+_, _*_, _^_, _≤_, _<_, zero-le}
+use native.Mathlib.Nat.{le-of-suc-le-suc, lt-irrefl, lt-of-not-le, lt-of-lt-of-le, lt-of-le-of-lt, le-trans, mul-le-mul-right, pow-le-pow-left, pow-suc, mul-zero, zero-mul, two-pow-succ}
 use native.Mathlib.Numerals.{add-one-le}
 use native.Mathlib.Omega.{arith}
-use lib.Dec.{ltb, lit≤}
+use lib.Arith.{lt-of-le-ne}
+use lib.Dec.{leb, lit<}
 use lib.Ieee.{binary64, ofBits}
-use borrow.Author.Tests.{lt-ltb, le-ltb, le-leb, lt-leb}
+use borrow.Author.Tests.{le-leb, lt-leb}
 use Rattle.loops.specs.laws.ChoiceLaws.{either, and-fails, and-passes}
 use Rattle.roots.specs.Roots.{val, infinityBits, edge, greatest, reaches, rounded, sqrtOf, inverseRoot}
 use Rattle.roots.specs.laws.Patterns.{middle-below, middle-above, edge-mono, edge-zero, pattern-positive}
@@ -43,106 +44,93 @@ greatest-stops p (suc n) b f =
 
 -- ---- the test
 
-module _ (near : Bool) (top k a c : ℕ) where
-  pub reaches-intro : (b : ℕ) → b < top → edge near b ^ k * a ≤ c → reaches near top k a c b ≡ true
+module _ (k a c : ℕ) where
+  pub reaches-intro : (b : ℕ) → b ≤ infinityBits → edge b ^ k * a ≤ c → reaches k a c b ≡ true
   unfolding reaches
-  reaches-intro b h l = and-passes (lt-ltb b top h) (le-leb (edge near b ^ k * a) c l)
+  reaches-intro b h l = and-passes (le-leb b infinityBits h) (le-leb (edge b ^ k * a) c l)
 
-  pub fails-above : (b : ℕ) → c < edge near b ^ k * a → reaches near top k a c b ≡ false
+  pub fails-above : (b : ℕ) → c < edge b ^ k * a → reaches k a c b ≡ false
   unfolding reaches
-  fails-above b h = and-fails (ltb b top) (λ _. lt-leb (edge near b ^ k * a) c h)
+  fails-above b h = and-fails (leb b infinityBits) (λ _. lt-leb (edge b ^ k * a) c h)
 
-  pub fails-at-top : (b : ℕ) → top ≤ b → reaches near top k a c b ≡ false
+  pub fails-past-infinity : (b : ℕ) → infinityBits < b → reaches k a c b ≡ false
   unfolding reaches
-  fails-at-top b h = and-fails (ltb b top) (λ t. absurd (clash t (le-ltb b top h)))
+  fails-past-infinity b h = and-fails (leb b infinityBits) (λ t. absurd (clash t (lt-leb b infinityBits h)))
 
-  pub reaches-below-top : (b : ℕ) → reaches near top k a c b ≡ true → b < top
-  reaches-below-top b t = lt-of-not-le (λ (h : top ≤ b). clash t (fails-at-top b h))
+  pub reaches-in-range : (b : ℕ) → reaches k a c b ≡ true → b ≤ infinityBits
+  reaches-in-range b t = le-of-suc-le-suc (lt-of-not-le (λ (h : infinityBits < b). clash t (fails-past-infinity b h)))
 
-  pub reaches-at-most : (b : ℕ) → reaches near top k a c b ≡ true → edge near b ^ k * a ≤ c
-  reaches-at-most b t = le-of-suc-le-suc (lt-of-not-le (λ (h : c < edge near b ^ k * a). clash t (fails-above b h)))
+  pub reaches-at-most : (b : ℕ) → reaches k a c b ≡ true → edge b ^ k * a ≤ c
+  reaches-at-most b t = le-of-suc-le-suc (lt-of-not-le (λ (h : c < edge b ^ k * a). clash t (fails-above b h)))
 
-  pub fails-beyond : (b : ℕ) → b < top → reaches near top k a c b ≡ false → c < edge near b ^ k * a
-  fails-beyond b h f = lt-of-not-le (λ (l : edge near b ^ k * a ≤ c). clash (reaches-intro b h l) f)
+  pub fails-beyond : (b : ℕ) → b ≤ infinityBits → reaches k a c b ≡ false → c < edge b ^ k * a
+  fails-beyond b h f = lt-of-not-le (λ (l : edge b ^ k * a ≤ c). clash (reaches-intro b h l) f)
 
-  module _ (finite : top ≤ infinityBits) where
-    pub reaches-down : (b d : ℕ) → d ≤ b → reaches near top k a c b ≡ true → reaches near top k a c d ≡ true
-    reaches-down b d h t =
-        let below : b < top = reaches-below-top b t in
-        reaches-intro d (omega arith)
-        (le-trans (mul-le-mul-right a (pow-le-pow-left (edge-mono near d b h (omega arith)) k)) (reaches-at-most b t))
+  pub reaches-down : (b d : ℕ) → d ≤ b → reaches k a c b ≡ true → reaches k a c d ≡ true
+  reaches-down b d h t =
+      let in-range : b ≤ infinityBits = reaches-in-range b t in
+      reaches-intro d (omega arith) (le-trans (mul-le-mul-right a (pow-le-pow-left (edge-mono d b h in-range) k)) (reaches-at-most b t))
 
-    pub reaches-before : (b d : ℕ) → reaches near top k a c b ≡ true → reaches near top k a c d ≡ false → b < d
-    reaches-before = passes-below (reaches near top k a c) reaches-down
+  pub reaches-before : (b d : ℕ) → reaches k a c b ≡ true → reaches k a c d ≡ false → b < d
+  reaches-before = passes-below (reaches k a c) reaches-down
 
-    -- every pattern above the root fails: 63 bits are enough, the top being below 2 ^ 63
-    rounded-stops : reaches near top k a c (rounded near top k a c + 1) ≡ false
-    unfolding rounded
-    rounded-stops = greatest-stops (reaches near top k a c) 63 0 (fails-at-top (0 + 2 ^ 63) (le-trans finite (lit≤ tt)))
+  -- every pattern above the root fails: 63 bits are enough, infinity's pattern being below 2 ^ 63
+  rounded-stops : reaches k a c (rounded k a c + 1) ≡ false
+  unfolding rounded
+  rounded-stops = greatest-stops (reaches k a c) 63 0 (fails-past-infinity (0 + 2 ^ 63) (lit< tt))
 
-    pub rounded-next-fails : (b : ℕ) → rounded near top k a c < b → reaches near top k a c b ≡ false
-    rounded-next-fails b h = is-false (λ (t : reaches near top k a c b ≡ true). clash (reaches-down b (rounded near top k a c + 1) (add-one-le h) t) rounded-stops)
+  pub rounded-next-fails : (b : ℕ) → rounded k a c < b → reaches k a c b ≡ false
+  rounded-next-fails b h = is-false (λ (t : reaches k a c b ≡ true). clash (reaches-down b (rounded k a c + 1) (add-one-le h) t) rounded-stops)
 
-    -- and it passes where any pattern does, 0 being below all
-    pub rounded-reaches : reaches near top k a c 0 ≡ true → reaches near top k a c (rounded near top k a c) ≡ true
-    unfolding rounded
-    rounded-reaches t = greatest-passes (reaches near top k a c) 63 0 t
+  -- and it passes where any pattern does, 0 being below all
+  pub rounded-reaches : reaches k a c 0 ≡ true → reaches k a c (rounded k a c) ≡ true
+  unfolding rounded
+  rounded-reaches t = greatest-passes (reaches k a c) 63 0 t
 
-    pub reaches-at-or-below : (b : ℕ) → reaches near top k a c b ≡ true → b ≤ rounded near top k a c
-    reaches-at-or-below b t = let below : b < rounded near top k a c + 1 = reaches-before b (rounded near top k a c + 1) t rounded-stops in omega arith
+  pub reaches-at-or-below : (b : ℕ) → reaches k a c b ≡ true → b ≤ rounded k a c
+  reaches-at-or-below b t = let below : b < rounded k a c + 1 = reaches-before b (rounded k a c + 1) t rounded-stops in omega arith
 
-    -- so a pattern that passes, with the next one failing, is the root
-    pub rounded-is : (b : ℕ) → reaches near top k a c b ≡ true → reaches near top k a c (b + 1) ≡ false → rounded near top k a c ≡ b
-    rounded-is b t f =
-        let r = rounded near top k a c in
-        let passes : reaches near top k a c r ≡ true = rounded-reaches (reaches-down b 0 zero-le t) in
-        let not-above : r < b + 1 = reaches-before r (b + 1) passes f in
-        let not-below : b ≤ r = reaches-at-or-below b t in
-        omega arith
+  -- so a pattern that passes, with the next one failing, is the root
+  pub rounded-is : (b : ℕ) → reaches k a c b ≡ true → reaches k a c (b + 1) ≡ false → rounded k a c ≡ b
+  rounded-is b t f =
+      let r = rounded k a c in
+      let passes : reaches k a c r ≡ true = rounded-reaches (reaches-down b 0 zero-le t) in
+      let not-above : r < b + 1 = reaches-before r (b + 1) passes f in
+      let not-below : b ≤ r = reaches-at-or-below b t in
+      omega arith
 
 -- 0 is below every root
-pub zero-reaches : (near : Bool) (top k a c : ℕ) → 0 < top → 0 < k → reaches near top k a c 0 ≡ true
-zero-reaches near top zero a c h hk = absurd (lt-irrefl 0 hk)
-zero-reaches near top (suc k) a c h hk = reaches-intro near top (suc k) a c 0 h (rw (edge-zero, pow-suc, mul-zero, zero-mul) zero-le)
+pub zero-reaches : (k a c : ℕ) → 0 < k → reaches k a c 0 ≡ true
+zero-reaches zero a c hk = absurd (lt-irrefl 0 hk)
+zero-reaches (suc k) a c hk = reaches-intro (suc k) a c 0 zero-le (rw (edge-zero, pow-suc, mul-zero, zero-mul) zero-le)
 
--- ---- what that says of the values, for every k, a, c and top
+-- ---- what that says of the values, for every k, a and c
 
-module _ (top k a c : ℕ) (finite : top ≤ infinityBits) where
-  pub rounded-below : (near : Bool) → 0 < top → 0 < k → rounded near top k a c < top
-  rounded-below near ht hk = reaches-below-top near top k a c (rounded near top k a c) (rounded-reaches near top k a c finite (zero-reaches near top k a c ht hk))
+module _ (k a c : ℕ) (hk : 0 < k) where
+  pub rounded-in-range : rounded k a c ≤ infinityBits
+  rounded-in-range = reaches-in-range k a c (rounded k a c) (rounded-reaches k a c (zero-reaches k a c hk))
 
-  pub rounded-at-most : (near : Bool) → 0 < top → 0 < k → edge near (rounded near top k a c) ^ k * a ≤ c
-  rounded-at-most near ht hk = reaches-at-most near top k a c (rounded near top k a c) (rounded-reaches near top k a c finite (zero-reaches near top k a c ht hk))
+  pub rounded-at-most : edge (rounded k a c) ^ k * a ≤ c
+  rounded-at-most = reaches-at-most k a c (rounded k a c) (rounded-reaches k a c (zero-reaches k a c hk))
 
-  -- rounded down, the root passes, and every greater value below the top fails
-  pub down-passes : 0 < top → 0 < k → (2 * val (rounded false top k a c)) ^ k * a ≤ c
-  unfolding edge
-  down-passes ht hk = rounded-at-most false ht hk
+  -- The middle between the root and any value below it is not above the true root, and is no tie where the root's edge is none; the middle
+  -- between it and any value above it is above. A middle of two values is half of their sum, and the sums are in half units.
+  pub near-below : (edge (rounded k a c) ^ k * a ≡ c → ⊥) → (s : ℕ) → s < rounded k a c → (val s + val (rounded k a c)) ^ k * a < c
+  near-below no-tie s h =
+      lt-of-le-of-lt (mul-le-mul-right a (pow-le-pow-left (middle-below s (rounded k a c) h rounded-in-range) k)) (lt-of-le-ne rounded-at-most no-tie)
 
-  pub down-next-fails : (s : ℕ) → rounded false top k a c < s → s < top → c < (2 * val s) ^ k * a
-  unfolding edge
-  down-next-fails s h hs = fails-beyond false top k a c s hs (rounded-next-fails false top k a c finite s h)
-
-  -- to the nearest, the middle between the root and any value below it is not above the true root, and the middle between it and any
-  -- value above it is: a middle of two values is half of their sum, and the sums are in half units
-  pub near-below : 0 < top → 0 < k → (s : ℕ) → s < rounded true top k a c → (val s + val (rounded true top k a c)) ^ k * a ≤ c
-  near-below ht hk s h =
-      let r = rounded true top k a c in
-      let in-range : r < infinityBits = lt-of-lt-of-le (rounded-below true ht hk) finite in
-      le-trans (mul-le-mul-right a (pow-le-pow-left (middle-below s r h in-range) k)) (rounded-at-most true ht hk)
-
-  pub near-above : (s : ℕ) → rounded true top k a c < s → s < top → c < (val (rounded true top k a c) + val s) ^ k * a
+  pub near-above : (s : ℕ) → rounded k a c < s → s ≤ infinityBits → c < (val (rounded k a c) + val s) ^ k * a
   near-above s h hs =
-      let r = rounded true top k a c in
-      let beyond : c < edge true (r + 1) ^ k * a = fails-beyond true top k a c (r + 1) (omega arith) (rounded-next-fails true top k a c finite (r + 1) (omega arith)) in
-      lt-of-lt-of-le beyond (mul-le-mul-right a (pow-le-pow-left (middle-above r s h (omega arith)) k))
+      let r = rounded k a c in
+      let beyond : c < edge (r + 1) ^ k * a = fails-beyond k a c (r + 1) (omega arith) (rounded-next-fails k a c (r + 1) (omega arith)) in
+      lt-of-lt-of-le beyond (mul-le-mul-right a (pow-le-pow-left (middle-above r s h hs) k))
 
 -- ---- the two roots of a value above 0, by its pattern
 
-pub sqrt-of-pattern : (b : ℕ) → 0 < b → b < infinityBits → sqrtOf (ofBits binary64 b) ≡ ofBits binary64 (rounded true infinityBits 2 1 (4 * val b * 2 ^ 1074))
+pub sqrt-of-pattern : (b : ℕ) → 0 < b → b < infinityBits → sqrtOf (ofBits binary64 b) ≡ ofBits binary64 (rounded 2 1 (4 * val b * 2 ^ 1074))
 unfolding sqrtOf val
 sqrt-of-pattern b hb h = let x = pattern-positive b hb h in rw (x .2)
 
-pub inverse-root-of-pattern : (k b : ℕ) → 0 < b → b < infinityBits → inverseRoot k (ofBits binary64 b) ≡ ofBits binary64 (rounded false infinityBits k (val b) (2 ^ (1075 * k + 1074)))
+pub inverse-root-of-pattern : (k b : ℕ) → 0 < b → b < infinityBits → inverseRoot k (ofBits binary64 b) ≡ ofBits binary64 (rounded k (val b) (2 ^ (1075 * k + 1074)))
 unfolding inverseRoot val
 inverse-root-of-pattern k b hb h = let x = pattern-positive b hb h in rw (x .2)

@@ -3,9 +3,8 @@
 -- The large powers are variables in the laws on numbers, since `omega` would write them out.
 use mathlib.Core.Path.{_≡_, sym, ap, _∙_}
 use mathlib.Core.Logic.{_⊎_, inl, inr}
-use mathlib.Core.Bool.{true}
 use Prim.Native.Nat.{ℕ, zero, suc, _+_, _-_, _*_, _/_, _%_, _^_, _≤_, _<_, zero-le}
-use native.Mathlib.Nat.{eq-or-lt-of-le, le-refl, le-of-suc-le-suc, le-trans, lt-of-not-le, mul-le-mul, mul-le-mul-left, mul-le-mul-right, mul-lt-mul-of-pos-right, mul-pos, mul-one, one-mul, pow-suc, pow-zero, mul-mul-mul-comm}
+use native.Mathlib.Nat.{eq-or-lt-of-le, le-of-lt, le-of-suc-le-suc, le-trans, lt-of-not-le, mul-le-mul, mul-le-mul-left, mul-le-mul-right, mul-lt-mul-of-pos-right, mul-pos, mul-one, one-mul, pow-suc, pow-zero, mul-mul-mul-comm}
 use native.Mathlib.Omega.{arith}
 use lib.Pow.{pow-add, pow-pos}
 use lib.Ieee.{binary64, ofBits}
@@ -54,9 +53,9 @@ half-above : (m k : ℕ) → k ≤ m * m + m → 4 * k < (2 * m + 1) * (2 * m + 
 half-above m k l = omega arith
 
 -- an edge lies no higher than the pattern's own value, in half units
-edge-at-most : (b x : ℕ) → b < infinityBits → val b ≡ x → edge true b ≤ 2 * x
+edge-at-most : (b x : ℕ) → b < infinityBits → val b ≡ x → edge b ≤ 2 * x
 unfolding edge
-edge-at-most b x h is = omega (arith, val-le (b - 1) b (omega arith) h)
+edge-at-most b x h is = omega (arith, val-le (b - 1) b (omega arith) (le-of-lt h))
 
 square-at-most : (e a k p : ℕ) → e ≤ 2 * (a * p) → 2 * a * (2 * a) ≤ k → e ^ 2 * 1 ≤ k * (p * p)
 square-at-most e a k p h l =
@@ -68,34 +67,34 @@ first-reached : (n t : ℕ) → t ≡ 0 → 2 ^ 52 ≤ n → 2 * (2 ^ 52 + t) * 
 first-reached n t is low = rw is (mul-le-mul-left 4 (mul-le-mul-right (2 ^ 52) low))
 
 module _ (n q t : ℕ) (low : 2 ^ 52 ≤ n) (finite : q < 2045) (digits : t < 2 ^ 52) (r : NearestWhole n (2 ^ 52 + t)) where
-  edge-reached : edge true ((q + 1) * 2 ^ 52 + t) ^ 2 * 1 ≤ 4 * (n * 2 ^ 52) * (2 ^ q * 2 ^ q)
+  edge-reached : edge ((q + 1) * 2 ^ 52 + t) ^ 2 * 1 ≤ 4 * (n * 2 ^ 52) * (2 ^ q * 2 ^ q)
   edge-reached = pick (eq-or-lt-of-le zero-le)
     where
-      pick : (0 ≡ t) ⊎ (0 < t) → edge true ((q + 1) * 2 ^ 52 + t) ^ 2 * 1 ≤ 4 * (n * 2 ^ 52) * (2 ^ q * 2 ^ q)
+      pick : (0 ≡ t) ⊎ (0 < t) → edge ((q + 1) * 2 ^ 52 + t) ^ 2 * 1 ≤ 4 * (n * 2 ^ 52) * (2 ^ q * 2 ^ q)
       -- the first pattern of an exponent has its own value reached
       pick (inl e) =
-          square-at-most (edge true ((q + 1) * 2 ^ 52 + t)) (2 ^ 52 + t) (4 * (n * 2 ^ 52)) (2 ^ q)
+          square-at-most (edge ((q + 1) * 2 ^ 52 + t)) (2 ^ 52 + t) (4 * (n * 2 ^ 52)) (2 ^ q)
           (edge-at-most ((q + 1) * 2 ^ 52 + t) ((2 ^ 52 + t) * 2 ^ q) (omega arith) (val-normal q t (omega arith) digits))
           (first-reached n t (sym e) low)
       pick (inr above) =
           rw (edge-here q t (omega arith) digits above)
           (square-reaches (2 * (2 ^ 52 + t) - 1) (4 * (n * 2 ^ 52)) (2 ^ q) (half-below (2 ^ 52 + t) (n * 2 ^ 52) (omega arith) (r .reached)))
 
-  edge-passed : 4 * (n * 2 ^ 52) * (2 ^ q * 2 ^ q) < edge true ((q + 1) * 2 ^ 52 + t + 1) ^ 2 * 1
+  edge-passed : 4 * (n * 2 ^ 52) * (2 ^ q * 2 ^ q) < edge ((q + 1) * 2 ^ 52 + t + 1) ^ 2 * 1
   edge-passed =
-      rw (edge-next q t (omega arith) digits (omega arith))
+      rw (edge-next q t (omega arith) digits)
       (square-passes (2 * (2 ^ 52 + t) + 1) (4 * (n * 2 ^ 52)) (2 ^ q) (pow-pos q) (half-above (2 ^ 52 + t) (n * 2 ^ 52) (r .last)))
 
-  rounded-fields : rounded true infinityBits 2 1 (4 * (n * 2 ^ 52) * (2 ^ q * 2 ^ q)) ≡ (q + 1) * 2 ^ 52 + t
+  rounded-fields : rounded 2 1 (4 * (n * 2 ^ 52) * (2 ^ q * 2 ^ q)) ≡ (q + 1) * 2 ^ 52 + t
   rounded-fields =
       let b = (q + 1) * 2 ^ 52 + t in
       let c = 4 * (n * 2 ^ 52) * (2 ^ q * 2 ^ q) in
-      rounded-is true infinityBits 2 1 c (le-refl infinityBits) b
-      (reaches-intro true infinityBits 2 1 c b (omega arith) edge-reached)
-      (fails-above true infinityBits 2 1 c (b + 1) edge-passed)
+      rounded-is 2 1 c b
+      (reaches-intro 2 1 c b (omega arith) edge-reached)
+      (fails-above 2 1 c (b + 1) edge-passed)
 
 -- the pattern of a root by its exponent and its significand
-rounded-pattern : (n q m : ℕ) → 2 ^ 52 ≤ n → n + 2 ≤ 2 ^ 54 → q < 2045 → NearestWhole n m → rounded true infinityBits 2 1 (4 * (n * 2 ^ 52) * (2 ^ q * 2 ^ q)) ≡ q * 2 ^ 52 + m
+rounded-pattern : (n q m : ℕ) → 2 ^ 52 ≤ n → n + 2 ≤ 2 ^ 54 → q < 2045 → NearestWhole n m → rounded 2 1 (4 * (n * 2 ^ 52) * (2 ^ q * 2 ^ q)) ≡ q * 2 ^ 52 + m
 rounded-pattern n q m low high finite r =
     let range = root-range n m low high r in
     let is : m ≡ 2 ^ 52 + (m - 2 ^ 52) = omega (arith, range .0) in
@@ -116,7 +115,7 @@ pub scaled-root-is : (a e m : ℕ) → 2 ^ 52 ≤ a → a < 2 ^ 53 → 52 ≤ e 
 unfolding scaledRoot
 scaled-root-is a e m low high from below r =
     let range = scaled-range a (e % 2) (omega arith) low high in
-    let is : rounded true infinityBits 2 1 (4 * (a * 2 ^ e)) ≡ (e - 52) / 2 * 2 ^ 52 + m =
-    ap (rounded true infinityBits 2 1) (powers-apart a (e % 2) 52 ((e - 52) / 2) e (omega arith))
+    let is : rounded 2 1 (4 * (a * 2 ^ e)) ≡ (e - 52) / 2 * 2 ^ 52 + m =
+    ap (rounded 2 1) (powers-apart a (e % 2) 52 ((e - 52) / 2) e (omega arith))
     ∙ rounded-pattern (a * 2 ^ (e % 2)) ((e - 52) / 2) m (range .0) (range .1) (omega arith) r in
     ap (ofBits binary64) (sym is)

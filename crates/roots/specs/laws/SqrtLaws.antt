@@ -23,7 +23,7 @@ in-units v a i k e is sum = rw (is, sum, pow-add 2 i k) (omega arith)
 of-units : (b a i e : ℕ) → 0 < b → b < infinityBits → val b ≡ a * 2 ^ i → e ≡ i + 1074 → sqrtOf (ofBits binary64 b) ≡ scaledRoot a e
 unfolding scaledRoot
 of-units b a i e above below is sum =
-    sqrt-of-pattern b above below ∙ ap (λ (c : ℕ). ofBits binary64 (rounded true infinityBits 2 1 c)) (in-units (val b) a i 1074 e is sum)
+    sqrt-of-pattern b above below ∙ ap (λ (c : ℕ). ofBits binary64 (rounded 2 1 c)) (in-units (val b) a i 1074 e is sum)
 
 pub sqrt-normal : (b : ℕ) → 2 ^ 52 ≤ b → b < infinityBits → sqrtOf (ofBits binary64 b) ≡ scaledRoot (2 ^ 52 + b % 2 ^ 52) (b / 2 ^ 52 + 1073)
 sqrt-normal b low high =
@@ -39,7 +39,7 @@ pub sqrt-small : (b j : ℕ) → 0 < b → b < 2 ^ 52 → j ≤ 1074 → sqrtOf 
 unfolding scaledRoot
 sqrt-small b j above below h =
     of-units b b 0 1074 above (omega arith) (val-small b below ∙ sym (mul-one b)) refl
-    ∙ ap (λ (c : ℕ). ofBits binary64 (rounded true infinityBits 2 1 (4 * c))) (power-apart b j (1074 - j) 1074 (omega arith))
+    ∙ ap (λ (c : ℕ). ofBits binary64 (rounded 2 1 (4 * c))) (power-apart b j (1074 - j) 1074 (omega arith))
 
 -- ---- below 0
 

@@ -1,9 +1,10 @@
 -- That whole numbers can speak of doubles: a finite double with its sign clear is exactly `unitsOf` of it times 2 ^ -1074
--- (`units-exact`), those numbers are in the doubles' order (`units-order`), and no two doubles have the same (`units-only`).
+-- (`units-exact`), those numbers and +infinity's are in the doubles' order (`range-order`), and no two doubles have the same (`range-only`).
 use mathlib.Core.Path.{_≡_, refl, sym, ap, _∙_, subst}
+use mathlib.Core.Logic.{_⊎_, inl, inr}
 use mathlib.Core.Bool.{Bool, true, false, _&&_}
 use Prim.Native.Nat.{ℕ, zero, suc, _+_, _-_, _*_, _/_, _%_, _^_, _≤_, _<_}
-use native.Mathlib.Nat.{div-one, mul-one, zero-mul, zero-add, zero-div, not-suc-le-zero, mul-le-mul-right, le-of-mul-le-mul-right, mul-assoc, mul-comm, mul-right-comm, mul-div-cancel, mul-pos, mul-lt-mul-of-pos-right, lt-of-mul-lt-mul-right, le-of-suc-le-suc, lt-of-not-le, lt-irrefl, zero-lt-suc, lt-of-lt-of-le}
+use native.Mathlib.Nat.{div-one, mul-one, zero-mul, zero-add, zero-div, not-suc-le-zero, mul-le-mul-right, le-of-mul-le-mul-right, mul-assoc, mul-comm, mul-right-comm, mul-div-cancel, mul-pos, mul-lt-mul-of-pos-right, lt-of-mul-lt-mul-right, le-of-suc-le-suc, lt-of-not-le, lt-irrefl, zero-lt-suc, lt-of-lt-of-le, le-of-lt, le-refl, eq-or-lt-of-le}
 use native.Mathlib.Omega.{arith}
 use lib.IntN.{ℤ, pos, negsuc}
 use lib.Dec.{T, eqb, leb, ltb, leb→le, ltb→lt, lt→ltb}
@@ -13,7 +14,7 @@ use lib.Ieee.Bits.{ofBits-toBits, ofBits-fits}
 use lib.Ieee.Fits.{down-pos, and-l, and-r}
 use borrow.Author.Tests.{ltb-true, ltb-false, lt-ltb, le-ltb}
 use Rattle.roots.specs.Roots.{unitsOf, val, infinityBits}
-use Rattle.roots.specs.laws.Patterns.{val-only, bits-below, pattern-finite, pattern-positive}
+use Rattle.roots.specs.laws.Patterns.{val-only, units-below, bits-below, pattern-finite, pattern-positive}
 
 -- a finite double with its sign clear: +0, or a value above 0
 abbrev pub SignClear : Float → Type 0
@@ -21,6 +22,20 @@ SignClear nan = ⊥
 SignClear (inf s) = ⊥
 SignClear (fin true m e) = ⊥
 SignClear (fin false m e) = T (fits binary64 (fin false m e))
+
+-- what a value from 0 on is rounded to: such a double, or +infinity
+abbrev pub UpToInfinity : Float → Type 0
+UpToInfinity nan = ⊥
+UpToInfinity (inf true) = ⊥
+UpToInfinity (inf false) = Unit
+UpToInfinity (fin true m e) = ⊥
+UpToInfinity (fin false m e) = T (fits binary64 (fin false m e))
+
+pub clear-in-range : (x : Float) → SignClear x → UpToInfinity x
+clear-in-range nan p = absurd p
+clear-in-range (inf s) p = absurd p
+clear-in-range (fin true m e) p = absurd p
+clear-in-range (fin false m e) p = p
 
 -- a finite double above 0
 abbrev pub Positive : Float → Type 0
@@ -67,27 +82,27 @@ same-order A B R S w z hw hz p q = pick (ltb R S) refl
         let no-less : B * w ≤ A * w = rw (p, q) (mul-le-mul-right z (ltb-false R S e)) in
         le-ltb A B (le-of-mul-le-mul-right no-less hw)
 
--- as comparison has it, a finite double is below another where its number of units is
-pub units-order : (r s : Float) → SignClear r → SignClear s → lt r s ≡ ltb (unitsOf r) (unitsOf s)
-unfolding lt
-units-order nan s p q = absurd p
-units-order (inf t) s p q = absurd p
-units-order (fin true m e) s p q = absurd p
-units-order (fin false m e) nan p q = absurd q
-units-order (fin false m e) (inf t) p q = absurd q
-units-order (fin false m e) (fin true n d) p q = absurd q
-units-order (fin false m e) (fin false n d) p q =
+-- as comparison has it, a double is below another where its number of units is
+pub range-order : (r s : Float) → UpToInfinity r → UpToInfinity s → lt r s ≡ ltb (unitsOf r) (unitsOf s)
+unfolding lt unitsOf
+range-order nan s p q = absurd p
+range-order (inf true) s p q = absurd p
+range-order (fin true m e) s p q = absurd p
+range-order (inf false) nan p q = absurd q
+range-order (inf false) (inf true) p q = absurd q
+range-order (inf false) (inf false) p q = refl
+range-order (inf false) (fin true n d) p q = absurd q
+range-order (inf false) (fin false n d) p q = sym (le-ltb (2 ^ 2098) (unitsOf (fin false n d)) (le-of-lt (units-below false n d q)))
+range-order (fin false m e) nan p q = absurd q
+range-order (fin false m e) (inf true) p q = absurd q
+range-order (fin false m e) (inf false) p q = sym (lt-ltb (unitsOf (fin false m e)) (2 ^ 2098) (units-below false m e p))
+range-order (fin false m e) (fin true n d) p q = absurd q
+range-order (fin false m e) (fin false n d) p q =
     let R = unitsOf (fin false m e) in
     let S = unitsOf (fin false n d) in
     same-order (m * up e * down d) (n * up d * down e) R S (2 ^ 1074) (down e * down d) (pow-pos 1074) (mul-pos (down-pos e) (down-pos d))
     (mul-right-comm (m * up e) (down d) (2 ^ 1074) ∙ ap (λ (n : ℕ). n * down d) (units-exact false m e p) ∙ mul-assoc R (down e) (down d))
     (mul-right-comm (n * up d) (down e) (2 ^ 1074) ∙ ap (λ (n : ℕ). n * down e) (units-exact false n d q) ∙ mul-assoc S (down d) (down e) ∙ ap (λ (n : ℕ). S * n) (mul-comm (down d) (down e)))
-
-pub units-less : (r s : Float) → SignClear r → SignClear s → T (lt r s) → unitsOf r < unitsOf s
-units-less r s p q h = ltb→lt (unitsOf r) (unitsOf s) (subst T (units-order r s p q) h)
-
-pub less-units : (r s : Float) → SignClear r → SignClear s → unitsOf r < unitsOf s → T (lt r s)
-less-units r s p q h = subst T (sym (units-order r s p q)) (lt→ltb (unitsOf r) (unitsOf s) h)
 
 -- what lies below 0
 abbrev pub Negative : Float → Type 0
@@ -128,6 +143,25 @@ clear-pattern (inf s) p = absurd p
 clear-pattern (fin true m e) p = absurd p
 clear-pattern (fin false m e) p = (toBits binary64 (fin false m e), bits-below m e p, sym (ofBits-toBits binary64 (fin false m e) p))
 
+-- and +infinity is the last pattern's
+pub infinity-is : ofBits binary64 infinityBits ≡ inf false
+unfolding ofBits
+infinity-is = refl
+
+pub pattern-in-range : (b : ℕ) → b ≤ infinityBits → UpToInfinity (ofBits binary64 b)
+pattern-in-range b h = pick (eq-or-lt-of-le h)
+  where
+    pick : (b ≡ infinityBits) ⊎ (b < infinityBits) → UpToInfinity (ofBits binary64 b)
+    pick (inl e) = rw (e, infinity-is) tt
+    pick (inr l) = clear-in-range (ofBits binary64 b) (pattern-clear b l)
+
+pub range-pattern : (x : Float) → UpToInfinity x → (b : ℕ) × (b ≤ infinityBits) × (x ≡ ofBits binary64 b)
+range-pattern nan p = absurd p
+range-pattern (inf true) p = absurd p
+range-pattern (inf false) p = (infinityBits, le-refl infinityBits, sym infinity-is)
+range-pattern (fin true m e) p = absurd p
+range-pattern (fin false m e) p = (toBits binary64 (fin false m e), le-of-lt (bits-below m e p), sym (ofBits-toBits binary64 (fin false m e) p))
+
 positive-clear : (x : Float) → Positive x → SignClear x
 positive-clear nan p = absurd p
 positive-clear (inf s) p = absurd p
@@ -148,11 +182,14 @@ positive-pattern x p = not-zero (clear-pattern x (positive-clear x p))
 
 -- ---- no two doubles have the same number of units
 
-pub units-only : (r s : Float) → SignClear r → SignClear s → unitsOf r ≡ unitsOf s → r ≡ s
+pub range-only : (r s : Float) → UpToInfinity r → UpToInfinity s → unitsOf r ≡ unitsOf s → r ≡ s
 unfolding val
-units-only r s p q e =
-    let x = clear-pattern r p in
-    let y = clear-pattern s q in
+range-only r s p q e =
+    let x = range-pattern r p in
+    let y = range-pattern s q in
     let same : val (x .0) ≡ val (y .0) = sym (ap unitsOf (x .2)) ∙ e ∙ ap unitsOf (y .2) in
     let patterns : x .0 ≡ y .0 = val-only (x .0) (y .0) (x .1) (y .1) same in
     x .2 ∙ ap (ofBits binary64) patterns ∙ sym (y .2)
+
+pub units-only : (r s : Float) → SignClear r → SignClear s → unitsOf r ≡ unitsOf s → r ≡ s
+units-only r s p q e = range-only r s (clear-in-range r p) (clear-in-range s q) e

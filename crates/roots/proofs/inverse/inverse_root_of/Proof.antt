@@ -1,12 +1,10 @@
 -- `roots::inverse::inverse_root_of` meets its contract: each test settles one kind of double, and what is left is finite and above 0. Assumes nothing.
 use mathlib.Core.Path.{sym, ap, _∙_, subst}
 use Prim.Native.Nat.{ℕ, _≤_, _<_}
-use native.Mathlib.Nat.{le-refl, le-of-lt}
-use lib.Dec.{T, lit<}
+use lib.Dec.{T}
 use lib.Ieee.{binary64, fits, ofBits}
-use Rattle.roots.specs.Roots.{infinityBits}
-use Rattle.roots.specs.laws.RootLaws.{rounded-reaches, reaches-below-top, zero-reaches}
-use Rattle.roots.specs.Scaled.{Scaled, Asked, roundedDown}
+use Rattle.roots.specs.laws.RootLaws.{rounded-in-range}
+use Rattle.roots.specs.Scaled.{Scaled, Asked}
 use Rattle.roots.proofs.Number.{pattern-is-number}
 use Rattle.roots.proofs.Doubles.{nan-root, zero-root, negative-root, infinity-root, pattern-above-zero, finite-root}
 use Rattle.loops.specs.laws.FloatLaws.{is-number}
@@ -16,11 +14,6 @@ use Rattle.roots.proofs.inverse.inverse_root_of.Tie as tie
 
 asked : {k b digits places : ℕ} → 1 ≤ k → k ≤ 7 → 0 < b → Scaled b digits places → Asked k digits places
 asked from upto some s = record { from = from; upto = upto; some = s .some some; small = s .small; low = s .low }
-
--- the search gives a finite pattern
-rounded-finite : (k digits places : ℕ) → 1 ≤ k → roundedDown k digits places < infinityBits
-rounded-finite k digits places from =
-    reaches-below-top _ _ _ _ _ _ (rounded-reaches _ _ _ _ _ (le-refl infinityBits) (zero-reaches _ _ _ _ _ (lit< tt) from))
 
 held : (c : tie.Start) → T (fits binary64 (c .args .x))
 held c = subst T (sym (c .good .1 .0 .1)) tt
@@ -52,7 +45,7 @@ pattern-of-root-requires c κs =
 float-from-bits-result : tie.Need-float-from-bits-result
 float-from-bits-result c =
     let start = c .before .before .before .before .before .before in
-    pattern-is-number _ (le-of-lt (rw (c .pattern-of-root .ensures) (rounded-finite _ _ _ (start .pre .0))))
+    pattern-is-number _ (rw (c .pattern-of-root .ensures) (rounded-in-range _ _ _ (start .pre .0)))
 
 returns-5 : tie.Need-returns-5
 returns-5 c =

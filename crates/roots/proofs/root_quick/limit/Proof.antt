@@ -12,18 +12,18 @@ use borrow.Author.Needs.{needs}
 use Rattle.roots.proofs.root_quick.limit.Statement.{statement}
 use Rattle.roots.proofs.root_quick.limit.Tie as tie
 
-shifted : (k q g : ℕ) → (q + 1) * k + g ≤ 1022 * k + 1085 → 1022 * k + 1085 - ((q + 1) * k + g) ≤ 63
-    → LimitIs k q g ((1 * 2 ^ (1022 * k + 1085 - ((q + 1) * k + g))) % 2 ^ 64)
+shifted : (k q g : ℕ) → q * k + g ≤ 1021 * k + 1085 → 1021 * k + 1085 - (q * k + g) ≤ 63
+    → LimitIs k q g ((1 * 2 ^ (1021 * k + 1085 - (q * k + g))) % 2 ^ 64)
 shifted k q g h l =
-    let w = 1022 * k + 1085 - ((q + 1) * k + g) in
+    let w = 1021 * k + 1085 - (q * k + g) in
     let exact : (1 * 2 ^ w) % 2 ^ 64 ≡ 2 ^ w = shl-exact {a = 1} 1 w 64 (lit< tt) (omega arith) ∙ one-mul (2 ^ w) in
     rw exact (limit-is k q g w (omega arith))
 
 mul-used : tie.Need-mul-used
 mul-used c = record { fits = omega (arith, few-places (c .args .q) (c .args .k) (c .pre .1) (c .pre .0)) }
 
-add-used-2 : tie.Need-add-used-2
-add-used-2 c = record { fits = omega (arith, few-places (c .args .q) (c .args .k) (c .pre .1) (c .pre .0)) }
+add-used : tie.Need-add-used
+add-used c = record { fits = omega (arith, few-places (c .args .q) (c .args .k) (c .pre .1) (c .pre .0)) }
 
 returns-3 : tie.Need-returns-3
 returns-3 c = λ _. shifted _ _ _ (c .before .if1 .left) (c .if2 .left)
@@ -34,9 +34,8 @@ limit-spec =
     (tie.spec
     (λ c. search needs)
     (λ c. search needs)
-    (λ c. search needs)
     mul-used
-    add-used-2
+    add-used
     (λ c. search needs)
     (λ c. search needs)
     (λ c. search needs)

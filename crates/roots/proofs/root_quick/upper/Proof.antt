@@ -10,7 +10,7 @@ use Rattle.roots.proofs.root_quick.upper.Statement.{statement}
 use Rattle.roots.proofs.root_quick.upper.Tie as tie
 
 abbrev Inv-loop : tie.InvT-loop
-Inv-loop m k n factor h₀ counter₀ h counter = (counter ≤ k) × Near ((m * 2 ^ 11) ^ counter * (n * 2 ^ 11)) counter h
+Inv-loop m k n factor h₀ counter₀ h counter = (counter ≤ k) × Near ((m * 2 ^ 10) ^ counter * (n * 2 ^ 11)) counter h
 
 abbrev μ-loop : tie.MeasureT-loop
 μ-loop m k n factor h₀ counter₀ h counter = k - counter
@@ -21,7 +21,7 @@ loop-holds c = (omega arith, rw (pow-zero, one-mul) (near-none (c .args .n * 2 ^
 loop-again : tie.Need-loop-again Inv-loop μ-loop
 loop-again c =
     let l = c .before .before .loop in
-    let factor = c .before .before .before .args .m * 2 ^ 11 in
+    let factor = c .before .before .before .args .m * 2 ^ 10 in
     (omega arith, rw once-more (near-more _ factor _ _ _ (omega arith) (l .inv .1) (c .high .ensures)))
 
 returns : tie.Need-returns Inv-loop μ-loop

@@ -4,26 +4,25 @@ use mathlib.Core.Path.{_≡_, sym, _∙_}
 use mathlib.Core.Logic.{⊎-elim}
 use mathlib.Core.Bool.{true, false}
 use Prim.Native.Nat.{ℕ, _+_, _-_, _^_, _≤_, _<_}
-use native.Mathlib.Nat.{le-refl}
 use native.Mathlib.Omega.{arith}
 use Rattle.roots.specs.Roots.{infinityBits}
-use Rattle.roots.specs.laws.RootLaws.{rounded-is, zero-reaches, fails-at-top}
-use Rattle.roots.specs.Scaled.{reachesDown}
+use Rattle.roots.specs.laws.RootLaws.{rounded-is, zero-reaches, fails-past-infinity}
+use Rattle.roots.specs.Scaled.{reachesRoot}
 use Rattle.roots.proofs.root_test.greatest_reaching.Statement.{statement}
 use Rattle.roots.proofs.root_test.greatest_reaching.Tie as tie
 
 record Bracketed (k digits places lo hi : ℕ) : Type 0 where
   apart : lo < hi
-  finite : hi ≤ infinityBits
-  passes : reachesDown k digits places lo ≡ true
-  fails : reachesDown k digits places hi ≡ false
+  finite : hi ≤ infinityBits + 1
+  passes : reachesRoot k digits places lo ≡ true
+  fails : reachesRoot k digits places hi ≡ false
 
 -- a pattern between them that was tested takes the place of one of them
 module _ {k digits places lo hi b : ℕ} (here : Bracketed k digits places lo hi) (above : lo < b) (below : b < hi) where
-  raised : reachesDown k digits places b ≡ true → Bracketed k digits places b hi
+  raised : reachesRoot k digits places b ≡ true → Bracketed k digits places b hi
   raised t = record { apart = below; finite = here .finite; passes = t; fails = here .fails }
 
-  lowered : reachesDown k digits places b ≡ false → Bracketed k digits places lo b
+  lowered : reachesRoot k digits places b ≡ false → Bracketed k digits places lo b
   lowered f = record { apart = above; finite = omega (arith, here .finite); passes = here .passes; fails = f }
 
 abbrev Inv-loop : tie.InvT-loop
@@ -37,9 +36,9 @@ loop-holds : tie.Need-loop-holds Inv-loop μ-loop
 loop-holds c = (
   record {
     apart = omega arith;
-    finite = le-refl infinityBits;
-    passes = zero-reaches false infinityBits _ _ _ (omega arith) (c .pre .from);
-    fails = fails-at-top false infinityBits _ _ _ infinityBits (le-refl infinityBits);
+    finite = omega arith;
+    passes = zero-reaches _ _ _ (c .pre .from);
+    fails = fails-past-infinity _ _ _ (infinityBits + 1) (omega arith);
   },
   omega arith,
 )
@@ -47,8 +46,8 @@ loop-holds c = (
 between-requires : tie.Need-between-requires Inv-loop μ-loop
 between-requires c κs = (omega arith, omega arith)
 
-reaches-rounding-down-requires : tie.Need-reaches-rounding-down-requires Inv-loop μ-loop
-reaches-rounding-down-requires c κs = (c .before .before .before .pre, omega arith, omega arith)
+reaches-requires : tie.Need-reaches-requires Inv-loop μ-loop
+reaches-requires c κs = (c .before .before .before .pre, omega arith, omega arith)
 
 loop-less : tie.Need-loop-less Inv-loop μ-loop
 loop-less c = ⊎-elim (λ w. omega arith) (λ w. omega arith) (c .if1 .came)
@@ -57,7 +56,7 @@ loop-again : tie.Need-loop-again Inv-loop μ-loop
 loop-again c =
     let here = c .before .before .before .before .loop .inv .0 in
     let b = c .before .before .between .ensures in
-    let test = sym (c .before .reaches-rounding-down .ensures) in (
+    let test = sym (c .before .reaches .ensures) in (
       ⊎-elim
           (λ w. rw (w .1, w .2) (raised here (b .0) (b .1) (test ∙ w .0 .taken)))
           (λ w. rw (w .2, w .3) (lowered here (b .0) (b .1) (test ∙ w .0 .left)))
@@ -68,7 +67,7 @@ loop-again c =
 returns : tie.Need-returns Inv-loop μ-loop
 returns c = let b = c .before .loop .inv .0 in
     let next : c .before .loop .hi ≡ c .before .loop .lo + 1 = omega arith in
-    sym (rounded-is false infinityBits _ _ _ (le-refl infinityBits) (c .before .loop .lo) (b .passes) (rw next at (b .fails)))
+    sym (rounded-is _ _ _ (c .before .loop .lo) (b .passes) (rw next at (b .fails)))
 
 pub greatest-reaching-spec : {M : Type 1} → statement M
 greatest-reaching-spec =
@@ -79,7 +78,7 @@ greatest-reaching-spec =
     loop-holds
     (λ c. omega arith)
     between-requires
-    reaches-rounding-down-requires
+    reaches-requires
     (λ c. omega arith)
     (λ c κs. tt)
     (λ c. omega arith)
