@@ -1,5 +1,5 @@
-//! Cases whose answers document 01, the transcript's paper and docs/DIFFERENCES.md print. They stand at the head of the
-//! stored sample.
+//! Cases whose answers document 01, the transcript's paper, docs/DIFFERENCES.md and, for the inverse root of numbers below the normal
+//! ones, crates/roots/specs/promises/Overflow.antt print; and its hardest roundings. They stand at the head of the stored sample.
 use crate::config::Config;
 use crate::make::record;
 use crate::systems::System;
@@ -29,7 +29,9 @@ fn leaves() -> Vec<Known> {
         words.extend(words_of(xs));
         Known { words, text }
     };
-    vec![
+    // 1 less k steps: the root lies above the middle between 1 and the next double, by about (k + 1) * 2^-107
+    let hardest = (1..8).map(|k| root(k, f64::from_bits(1f64.to_bits() - k), "3FF0000000000001\n"));
+    let printed = vec![
         sqrt(2.25, "3FF8000000000000\n"),
         sqrt(f64::from_bits(1), "1E60000000000000\n"),
         root(2, 0.25, "4000000000000000\n"),
@@ -50,7 +52,8 @@ fn leaves() -> Vec<Known> {
         matrix(3, &[2, 7, 9], &[2.0, 1.0, 4.0, 6.0], "ok 1 9 4010000000000000 4018000000000000 BFE0000000000000 C000000000000000\n"),
         matrix(4, &[2, 1, 9], &[4.0, 6.0, -0.5, -2.0, 5.0, 14.0], "4000000000000000 3FF0000000000000\n"),
         matrix(3, &[1, 5], &[0.0], "R 15 5 0000000000000000\n"),
-    ]
+    ];
+    printed.into_iter().chain(hardest).collect()
 }
 
 /// With these coefficients the value at xi is the order that the mark is read as.

@@ -104,11 +104,11 @@ pub fn case_inverse_root(random: &mut Random) -> Vec<u64> {
         0 => random.pick(&[0, 8, 9, 64]),
         _ => random.from_to(1, 7),
     };
-    let x = match random.below(6) {
+    let x = match random.below(8) {
         0 => random.edge(),
         1 => random.positive(),
         2 => random.near_power_of_two(),
-        // a power of a short number, where the product with its root lies close to 1
+        // a power of a short number, whose root is close to it
         3 => {
             let r = random.from_to(1, 1 << 20) as f64 * 2f64.powi(random.below(40) as i32 - 20);
             beside(random, r.powi(-(k as i32)))
@@ -117,6 +117,14 @@ pub fn case_inverse_root(random: &mut Random) -> Vec<u64> {
             let power = 2f64.powi(random.below(2000) as i32 - 1000);
             beside(random, power)
         }
+        // below a power of 2^k by k times an odd number of steps: the root lies close above a middle, the hardest to round
+        5 => {
+            let power = 2f64.powi(k.min(7) as i32 * (random.below(60) as i32 - 30));
+            let steps = if random.once_in(2) { 1 } else { 2 * random.below(1 << 10) + 1 };
+            f64::from_bits(power.to_bits() - (k * steps) as u64)
+        }
+        // below the normal ones, where k 1 comes to infinity
+        6 => f64::from_bits(random.bits() >> random.from_to(12, 63)),
         _ => random.decade(-12.0, 12.0),
     };
     vec![2, k as u64, word(x)]

@@ -98,7 +98,7 @@ impl Whole {
         self.length() == q + 1 && self.0.iter().map(|d| d.count_ones()).sum::<u32>() == 1
     }
 
-    /// self <= 2^q
+    /// self <= 2^q, for a number above 0
     fn at_most_power_of_two(&self, q: i64) -> bool {
         self.length() <= q || self.is_power_of_two(q)
     }

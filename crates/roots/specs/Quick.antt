@@ -3,7 +3,7 @@ use mathlib.Core.Path.{_≡_}
 use Prim.Native.Nat.{ℕ, _+_, _*_, _^_, _≤_, _<_}
 use Rattle.roots.specs.Scaled.{nearestRoot}
 use Rattle.roots.specs.declared.root_quick.Place.{Place}
-use Rattle.roots.specs.declared.root_quick.Place.the-variants.{Here, Below, Unknown}
+use Rattle.roots.specs.declared.root_quick.Place.the-variants.{Above, Below, Unknown}
 use Rattle.roots.specs.declared.root_quick.Settled.{Settled}
 use Rattle.roots.specs.declared.root_quick.Settled.the-variants.{At, Unsure}
 
@@ -21,8 +21,10 @@ pub record Near (e k h : ℕ) : Type 0 where
 abbrev pub LimitIs : ℕ → ℕ → ℕ → ℕ → Type 0
 LimitIs k q g p = p * (2 ^ 64) ^ k * 2 ^ (q * k + g) ≡ 2 ^ (1075 * k + 1074) * 2 ^ (10 * k + 11)
 
+-- h, or at most `slack` more, is the middle's, and the neighbouring middles' are at least `reach` away: p lies above or below it, and not
+-- beyond the next
 abbrev pub placed : ℕ → ℕ → ℕ → ℕ → Place → Type 0
-placed h p slack reach Here = (h + slack ≤ p) × (p < h + reach)
+placed h p slack reach Above = (h + slack ≤ p) × (p < h + reach)
 placed h p slack reach Below = (p < h) × (h + slack ≤ p + reach)
 placed h p slack reach Unknown = Unit
 

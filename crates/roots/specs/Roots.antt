@@ -1,7 +1,7 @@
 -- The square root and the inverse k-th root of a double, by one search over bit patterns and one exact test on whole numbers.
 -- A pattern here has its sign clear, so a greater pattern is a greater value. Values are counted in units of 2 ^ -1074, the
 -- smallest double, so that each is a whole number and nothing is rounded before the answer.
--- Laws that say what the two roots mean, with no search in them, are in `Meaning`.
+-- What the two roots mean, with no search in the statements, is proved in `Meaning`, and where the inverse root is infinite in `Overflow`.
 use mathlib.Core.Bool.{Bool, true, false, _&&_}
 use Prim.Native.Nat.{ℕ, zero, suc, _+_, _-_, _*_, _/_, _^_}
 use lib.Dec.{leb}
@@ -29,12 +29,13 @@ abbrev pub infinityBits : ℕ
 infinityBits = 0x7ff0_0000_0000_0000
 
 -- From which value on a pattern is the answer, in half units: the middle between its value and that of the pattern below. No root lies on a
--- middle (`Meaning`), so that no rule for ties is wanted.
+-- middle (`Meaning`), so that 'ties to even' has no case.
 unfoldable pub edge : ℕ → ℕ
 unfolding val
 edge b = val (b - 1) + val b
 
--- the greatest number that passes p, of those reached from b by setting bits n - 1 .. 0, the highest first
+-- the greatest number that passes p, of those reached from b by setting bits n - 1 .. 0, the highest first; for a p that passes at
+-- all numbers below one at which it passes
 unfoldable pub greatest : (ℕ → Bool) → ℕ → ℕ → ℕ
 greatest p zero b = b
 greatest p (suc n) b = greatest p n (if p (b + 2 ^ n) then b + 2 ^ n else b)
@@ -44,7 +45,7 @@ unfoldable pub reaches : ℕ → ℕ → ℕ → ℕ → Bool
 unfolding edge
 reaches k a c b = leb b infinityBits && leb (edge b ^ k * a) c
 
--- the k-th root of c / a, rounded to the nearest pattern, infinity's too
+-- the k-th root of c / a, in half units, rounded to the nearest pattern, infinity's too
 unfoldable pub rounded : ℕ → ℕ → ℕ → ℕ
 unfolding greatest reaches
 rounded k a c = greatest (reaches k a c) 63 0

@@ -4,8 +4,8 @@ use mathlib.Core.Bool.{Bool}
 use Prim.Native.Nat.{ℕ, _+_, _-_, _*_, _^_, _≤_, _<_}
 use Rattle.roots.specs.Roots.{val, infinityBits, reaches, rounded}
 
--- The value of the pattern b. The next pattern has one digit more at the same places, the one after it another or more, and the last one
--- less, but where b is the first of its exponent.
+-- The value of the pattern b. At the same places the next pattern's digits are one more, and the one after it is worth two more at least;
+-- the digits of the one before are one less, where b is a normal one and not the first of its exponent.
 pub record Scaled (b digits places : ℕ) : Type 0 where
   pub worth : val b ≡ digits * 2 ^ places
   pub small : digits < 2 ^ 53

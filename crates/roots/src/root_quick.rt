@@ -1,6 +1,6 @@
 // Whether a guess is the inverse root, or the pattern below it, by one product that keeps its upper 64 bits. It may be unsure, and is seldom.
 // The middle m between the two is tested: of m^k * n that product gives h, with an error of at most 3 * k, where p stands for the limit. The
-// middle above has m + 2 for m, which is at least 2 * k / m more; so both neighbouring middles are judged by h and p too.
+// middle above has m + 2 for m, and its power is more by 2 * k / m of it at least; so both neighbouring middles are judged by h and p too.
 ghost use Prim.Native.Nat.{_*_, _^_, _≤_, _<_};
 ghost use Rattle.roots.specs.Scaled.{Asked};
 ghost use Rattle.roots.specs.Quick.{High, Near, LimitIs, placed, settled};
@@ -37,7 +37,7 @@ fn upper(m: u64, k: usize, n: u64) -> u64
     h
 }
 
-// The limit that such an upper part is held to, for a pattern of q places and an x of g; 0 where it has no place in 64 bits.
+// The limit that such an upper part is held to, for a middle of q places and an x of g; 0 where it has no place in 64 bits.
 fn limit(k: u64, q: u64, g: u64) -> u64
     requires { ⌜ (k ≤ 7) × (q < 2046) × (g < 2046) ⌝ }
     ensures { λ r. ⌜ (0 < r → LimitIs k q g r) ⌝ }
@@ -53,9 +53,9 @@ fn limit(k: u64, q: u64, g: u64) -> u64
     1 << (have - used)
 }
 
-// Where the limit p lies: from h on, up to the next middle's, or below h, down to the last one's.
+// Where the limit p lies: above the tested middle and below the next one, or below it and above the one before.
 enum Place {
-    Here,
+    Above,
     Below,
     Unknown,
 }
@@ -73,7 +73,7 @@ fn place_of(h: u64, p: u64, slack: u64, reach: u64) -> Place
     if room < slack {
         return Place::Unknown;
     }
-    if p < h { Place::Below } else { Place::Here }
+    if p < h { Place::Below } else { Place::Above }
 }
 
 pub(crate) enum Settled {
@@ -102,7 +102,7 @@ pub(crate) fn settle(k: usize, x: Units, b: u64) -> Settled
     let h = upper(middle, k, x.digits);
     let reach = 2 * power * (p / (middle + 2 * power));
     match place_of(h, p, 3 * power, reach) {
-        Place::Here => Settled::At(b),
+        Place::Above => Settled::At(b),
         Place::Below => Settled::At(b - 1),
         Place::Unknown => Settled::Unsure,
     }

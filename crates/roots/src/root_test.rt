@@ -1,5 +1,5 @@
-// Whether the edge of a bit pattern, the middle between it and the one below, lies at or below the k-th root of 1 / x, x being n * 2^g units of
-// 2^-1074; and the greatest pattern whose edge does: the root to the nearest.
+// Whether the edge of a bit pattern, the middle between it and the one below, lies at or below the k-th root of 1 / x; and the greatest
+// pattern whose edge does, which is the root to the nearest.
 ghost use mathlib.Core.Path.{_≡_};
 ghost use Prim.Native.Nat.{_+_, _^_, _≤_, _<_};
 ghost use Rattle.roots.specs.Roots.{infinityBits};
@@ -11,7 +11,8 @@ use crate::units::units_of;
 // the first pattern of a NaN
 const PAST_INFINITY: u64 = 0x7ff0_0000_0000_0001;
 
-// Whether the edge of b, its k-th power times x, is at most 1. In half units it is one more than twice the value below.
+// Whether the k-th power of b's edge, times x, is at most 1. In half units the edge has the places of the pattern below, and one more than
+// twice its digits.
 fn reaches(k: usize, x: Units, b: u64) -> bool
     requires { ⌜ Asked k (x .digits) (x .places) × (0 < b) × (b ≤ infinityBits) ⌝ }
     ensures { λ r. ⌜ r ≡ reachesRoot k (x .digits) (x .places) b ⌝ }

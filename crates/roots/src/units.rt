@@ -5,7 +5,7 @@ ghost use Rattle.roots.specs.Scaled.{Scaled};
 
 const HIDDEN: u64 = 0x10_0000_0000_0000;
 
-// A finite number above 0: digits * 2^places units.
+// A finite number from 0 on: digits * 2^places units.
 pub(crate) struct Units {
     pub digits: u64,
     pub places: u64,

@@ -1,4 +1,4 @@
--- Why the quick test of a guess is right: upper parts of products keep their bounds, and a neighbour's power is bounded by the guess's own.
+-- Why the quick test of a guess is right: upper parts of products keep their bounds, and the power of a neighbouring middle is bounded by that of the one tested.
 -- The large powers of two are variables here.
 use mathlib.Core.Path.{_≡_, sym, ap, _∙_}
 use Prim.Native.Nat.{ℕ, zero, suc, _+_, _*_, _/_, _^_, _≤_, _<_}

@@ -60,8 +60,8 @@ module _ (k b m q n g p h v : ℕ) (r : Scaled b m q) (asked : Asked k n g) (fin
           (fails (b + 1 + 1) (d + 2) (edge-after b m q r finite)
           (next-beyond ((2 ^ 64) ^ k) p h d (2 * k) (2 ^ (10 * k + 11)) (d ^ k * n) ((d + 2) ^ k * n) positive some low next (next-over p h d (2 * k) v reach some close))))
 
-      pub root-here : 2 ^ 52 < m → p < h → h + 3 * k ≤ p + 2 * k * v → b ≡ nearestRoot k n g
-      root-here inner over close =
+      pub root-below : 2 ^ 52 < m → p < h → h + 3 * k ≤ p + 2 * k * v → b ≡ nearestRoot k n g
+      root-below inner over close =
           let d = 2 * m + 1 in
           let l = 2 * m - 1 in
           let two-less : l + 2 ≡ d = omega arith in

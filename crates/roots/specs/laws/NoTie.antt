@@ -1,7 +1,7 @@
 -- Why no tie occurs where a root is rounded to the nearest. First the square root. The middle of two neighbouring doubles is an odd number m with q
 -- zeros after it, m being at least 2 ^ 53 unless q is 0; so its square is m * m, an odd number, with 2 q zeros after it. What it would have
 -- to equal is a number n below 2 ^ 53 with h zeros after it. Being smaller than m * m, n has the more zeros after it; then m * m would be even.
--- Then the inverse root: its powers of middles would have to divide a power of two, and an odd number that does is 1. The one middle with m = 1
+-- Then the inverse root: the power of a middle would have to divide a power of two, and an odd number that does is 1. The one middle with m = 1
 -- lies below the smallest double above 0, and no double has a root as low.
 use mathlib.Core.Path.{_≡_, refl, sym, ap, _∙_}
 use mathlib.Core.Logic.{_⊎_, inl, inr, ⊎-elim}

@@ -1,5 +1,5 @@
 -- The two roots by patterns: what `Meaning` says of doubles, said of their patterns. The root of a pattern is nearer to the true root than
--- any other pattern's value, since the middles on either side of it are its edges, and no edge's power is a tie.
+-- any other pattern's value, since the middles on either side of it are its edge and the next pattern's, and no edge's power is a tie.
 use mathlib.Core.Path.{_≡_, ap, _∙_}
 use Prim.Native.Nat.{ℕ, _+_, _-_, _*_, _^_, _≤_, _<_, zero-le}
 use native.Mathlib.Nat.{mul-one, mul-assoc, le-refl, le-antisymm, mul-lt-mul-of-pos-left, mul-lt-mul-of-pos-right, lt-of-le-of-lt, lt-of-lt-of-le, add-comm, le-trans, le-of-lt, mul-pos, one-mul}

@@ -1,5 +1,5 @@
 -- The value of a bit pattern, in units of 2 ^ -1074, by its exponent's field and its digits; and so the shape of an edge.
--- From one pattern to the next the value grows by one step, 2 ^ q from the field q + 1 on (`val-step`): the order and the middles follow.
+-- From one pattern to the next the value grows by one step, 2 ^ q at the field q + 1 and 1 at the field 0 (`val-step`): the order and the middles follow.
 use mathlib.Core.Path.{_≡_, refl, sym, ap, _∙_, subst}
 use mathlib.Core.Logic.{_⊎_, inl, inr}
 use mathlib.Core.Bool.{Bool, false, _&&_}

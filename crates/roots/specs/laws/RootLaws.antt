@@ -104,7 +104,7 @@ pub zero-reaches : (k a c : ℕ) → 0 < k → reaches k a c 0 ≡ true
 zero-reaches zero a c hk = absurd (lt-irrefl 0 hk)
 zero-reaches (suc k) a c hk = reaches-intro (suc k) a c 0 zero-le (rw (edge-zero, pow-suc, mul-zero, zero-mul) zero-le)
 
--- ---- what that says of the values, for every k, a and c
+-- ---- what that says of the values, for every k from 1 on, every a and c
 
 module _ (k a c : ℕ) (hk : 0 < k) where
   pub rounded-in-range : rounded k a c ≤ infinityBits

@@ -1,5 +1,5 @@
 -- That whole numbers can speak of doubles: a finite double with its sign clear is exactly `unitsOf` of it times 2 ^ -1074
--- (`units-exact`), those numbers and +infinity's are in the doubles' order (`range-order`), and no two doubles have the same (`range-only`).
+-- (`units-exact`), those numbers and +infinity's are in the doubles' order (`range-order`), and no two of these have the same (`range-only`).
 use mathlib.Core.Path.{_≡_, refl, sym, ap, _∙_, subst}
 use mathlib.Core.Logic.{_⊎_, inl, inr}
 use mathlib.Core.Bool.{Bool, true, false, _&&_}
@@ -7,7 +7,7 @@ use Prim.Native.Nat.{ℕ, zero, suc, _+_, _-_, _*_, _/_, _%_, _^_, _≤_, _<_}
 use native.Mathlib.Nat.{div-one, mul-one, zero-mul, zero-add, zero-div, not-suc-le-zero, mul-le-mul-right, le-of-mul-le-mul-right, mul-assoc, mul-comm, mul-right-comm, mul-div-cancel, mul-pos, mul-lt-mul-of-pos-right, lt-of-mul-lt-mul-right, le-of-suc-le-suc, lt-of-not-le, lt-irrefl, zero-lt-suc, lt-of-lt-of-le, le-of-lt, le-refl, eq-or-lt-of-le}
 use native.Mathlib.Omega.{arith}
 use lib.IntN.{ℤ, pos, negsuc}
-use lib.Dec.{T, eqb, leb, ltb, leb→le, ltb→lt, lt→ltb}
+use lib.Dec.{T, eqb, leb, ltb, leb→le, ltb→lt}
 use lib.Pow.{pow-add, pow-pos, pow-lt}
 use lib.Ieee.{Float, nan, inf, fin, binary64, up, down, lt, fits, ofBits, toBits}
 use lib.Ieee.Bits.{ofBits-toBits, ofBits-fits}
@@ -31,7 +31,7 @@ UpToInfinity (inf false) = Unit
 UpToInfinity (fin true m e) = ⊥
 UpToInfinity (fin false m e) = T (fits binary64 (fin false m e))
 
-pub clear-in-range : (x : Float) → SignClear x → UpToInfinity x
+clear-in-range : (x : Float) → SignClear x → UpToInfinity x
 clear-in-range nan p = absurd p
 clear-in-range (inf s) p = absurd p
 clear-in-range (fin true m e) p = absurd p

@@ -1,26 +1,26 @@
 -- What the two roots mean, with no search in them. Doubles are counted in units of 2 ^ -1074 (`Units` says that this loses nothing), so that
 -- every statement is one of whole numbers: nothing is rounded, and no real number is wanted.
-use mathlib.Core.Path.{_≡_, refl, sym, ap, _∙_}
-use mathlib.Core.Bool.{Bool, true, false}
-use Prim.Native.Nat.{ℕ, zero, suc, _+_, _-_, _*_, _^_, _≤_, _<_, zero-le}
-use native.Mathlib.Nat.{lt-irrefl, lt-trans, le-of-suc-le-suc, lt-of-not-le, lt-of-le-of-lt, le-of-lt, le-refl, ne-of-lt, add-comm, le-antisymm}
+use mathlib.Core.Path.{_≡_, refl, sym}
+use mathlib.Core.Bool.{Bool, false}
+use Prim.Native.Nat.{ℕ, zero, suc, _+_, _*_, _^_, _<_, zero-le}
+use native.Mathlib.Nat.{lt-irrefl, lt-trans, le-of-suc-le-suc, lt-of-not-le, lt-of-le-of-lt, le-of-lt, ne-of-lt, add-comm, le-antisymm}
 use lib.IntN.{ℤ, pos}
 use lib.Dec.{T}
-use lib.Ieee.{Float, nan, inf, fin, binary64, lt, ofBits}
-use Rattle.roots.specs.Roots.{unitsOf, val, infinityBits, sqrtOf, inverseRoot}
-use Rattle.roots.specs.laws.Patterns.{val-mono, val-only}
-use Rattle.roots.specs.laws.PatternRoots.{sqrtBits, sqrt-is, sqrt-below, sqrt-nearer-than-above, sqrt-nearer-than-below, sqrt-above-zero, inverseBits, inverse-is, inverse-in-range, inverse-nearer-than-above, inverse-nearer-than-below, inverse-above-zero, inverse-overflows, inverse-overflowed}
-use Rattle.roots.specs.laws.Units.{SignClear, UpToInfinity, Positive, Negative, negative-is, positive-pattern, clear-pattern, pattern-clear, pattern-above, pattern-in-range, range-pattern, infinity-is, range-only, units-only}
+use lib.Ieee.{Float, nan, inf, fin, lt}
+use Rattle.roots.specs.Roots.{unitsOf, val, sqrtOf, inverseRoot}
+use Rattle.roots.specs.laws.Patterns.{val-mono}
+use Rattle.roots.specs.laws.PatternRoots.{sqrtBits, sqrt-is, sqrt-below, sqrt-nearer-than-above, sqrt-nearer-than-below, sqrt-above-zero, inverseBits, inverse-is, inverse-in-range, inverse-nearer-than-above, inverse-nearer-than-below, inverse-above-zero}
+use Rattle.roots.specs.laws.Units.{SignClear, UpToInfinity, Positive, Negative, negative-is, positive-pattern, clear-pattern, pattern-clear, pattern-above, pattern-in-range, range-pattern, range-only, units-only}
 
--- ---- the square root
-
--- Of R and S the first is strictly the nearer to a root: their middle lies on S's side of it. Of the middle and of the root a power is told,
--- so that both are whole numbers.
+-- Of R and S the first is strictly the nearer to a root: their middle lies on S's side of it. Root and middle are given by a power of
+-- each, times the same number, so that both are whole.
 pub record Nearer (root middle R S : ℕ) : Type 0 where
   pub above : R < S → root < middle
   pub below : S < R → middle < root
 
--- r is the finite double nearest to √x, every other one being strictly farther. Where x is u units, √x is √(u * 2 ^ 1074) units. The root
+-- ---- the square root
+
+-- r is the finite double nearest to √x, every other one from +0 on being strictly farther. Where x is u units, √x is √(u * 2 ^ 1074) units. The root
 -- and the middle (R + S) / 2 are squared and times 4.
 pub record NearestRoot (x r : Float) : Type 0 where
   pub finite : SignClear r
@@ -84,9 +84,9 @@ sqrt-below-zero x h = of-negative x (negative-is x h)
 
 -- ---- the inverse root
 
--- r is the double nearest to x to the power -1 / k, every other one being strictly farther; +infinity counts as 2 ^ 1024, the value that would
--- follow the largest finite one. With X units the true root is t units, t ^ k * X being 2 ^ (1074 k + 1074). The root and the middle (R + S) / 2
--- are to the power k, times 2 ^ k * X.
+-- r is the double nearest to x to the power -1 / k, every other one from +0 to +infinity being strictly farther (and what lies below 0 is farther
+-- than +0); +infinity counts as 2 ^ 1024, the value that would follow the largest finite one. With X units the true root is t units,
+-- t ^ k * X being 2 ^ (1074 k + 1074). The root and the middle (R + S) / 2 are taken to the power k and multiplied by 2 ^ k * X.
 pub record NearestInverse (k : ℕ) (x r : Float) : Type 0 where
   pub in-range : UpToInfinity r
   pub nearest : (s : Float) → UpToInfinity s → Nearer (2 ^ (1075 * k + 1074)) ((unitsOf r + unitsOf s) ^ k * unitsOf x) (unitsOf r) (unitsOf s)
@@ -135,7 +135,8 @@ inverse-positive k x hk p =
     rw (is, inverse-is k b above below)
     (lt-of-le-of-lt zero-le (val-mono 0 (inverseBits k b) (inverse-above-zero k b hk below) (inverse-in-range k b hk)))
 
--- where it is infinite is said in `Overflow`; elsewhere: a zero of either sign has an infinite inverse, below 0 there is no root
+-- where it is infinite for a finite double above 0 is said in `Overflow`; for the others: a zero of either sign has an infinite inverse, below 0
+-- there is no root
 pub inverse-of-nan : (k : ℕ) → inverseRoot k nan ≡ nan
 unfolding inverseRoot
 inverse-of-nan k = refl

@@ -16,9 +16,13 @@ use Rattle.roots.specs.laws.PatternRoots.{inverseBits, inverse-is, inver
 use Rattle.roots.specs.laws.Units.{SignClear, UpToInfinity, Positive, positive-pattern, infinity-is}
 use Rattle.roots.specs.promises.Meaning.{inverse-nearest}
 
--- the middle above the largest finite double, 2 ^ 1024 - 2 ^ 970, in half units
+-- the middle above the largest finite double, 2 ^ 1024 - 2 ^ 970, in half units: that between it and +infinity as `unitsOf` counts it
 abbrev pub lastMiddle : ℕ
 lastMiddle = (2 ^ 54 - 1) * 2 ^ 2045
+
+pub last-middle-is : unitsOf (ofBits binary64 0x7fef_ffff_ffff_ffff) + unitsOf (inf false) ≡ lastMiddle
+unfolding ofBits unitsOf
+last-middle-is = refl
 
 -- the true root lies at or beyond it: in half units the root t of X units has t ^ k * X = 2 ^ (1075 k + 1074)
 abbrev pub Overflows : ℕ → Float → Type 0
@@ -81,7 +85,7 @@ overflows-only (suc (suc k)) x hk p h =
 pub overflows-there : (x : Float) → unitsOf x ≤ 2 ^ 50 → Overflows 1 x
 overflows-there x h = le-trans (mul-le-mul-left (lastMiddle ^ 1) h) (lit≤ tt)
 
--- ---- k = 1 of the numbers below the normal ones, and what comes near them, as the definition computes it
+-- ---- k = 1 of numbers below the normal ones and around them, as the definition computes it
 
 abbrev FirstInverse : ℕ → ℕ → Type 0
 FirstInverse x r = inverseRoot 1 (ofBits binary64 x) ≡ ofBits binary64 r
@@ -90,7 +94,7 @@ pub record Subnormals : Type 0 where
   -- 2 ^ -1074, the smallest, and 2 ^ -1024 have +infinity
   pub smallest : FirstInverse 1 0x7ff0_0000_0000_0000
   pub last-infinite : FirstInverse 0x0004_0000_0000_0000 0x7ff0_0000_0000_0000
-  -- the next above 2 ^ -1024 has the largest double less seven of its steps: one step of x is eight there
+  -- the next above 2 ^ -1024 has the largest double less seven of its steps: one step of x is eight of the root's there
   pub first-finite : FirstInverse 0x0004_0000_0000_0001 0x7fef_ffff_ffff_fff8
   -- the largest below the normal ones has the next above 2 ^ 1022, and 2 ^ -1022, the smallest normal one, has 2 ^ 1022
   pub largest : FirstInverse 0x000f_ffff_ffff_ffff 0x7fd0_0000_0000_0001

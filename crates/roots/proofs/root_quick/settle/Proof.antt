@@ -7,9 +7,9 @@ use native.Mathlib.Omega.{arith}
 use Rattle.roots.specs.Roots.{infinityBits}
 use Rattle.roots.specs.Scaled.{Scaled, Asked, nearestRoot}
 use Rattle.roots.specs.Quick.{Near, LimitIs, placed}
-use Rattle.roots.specs.declared.root_quick.Place.the-variants.{Here, Below}
+use Rattle.roots.specs.declared.root_quick.Place.the-variants.{Above, Below}
 use Rattle.roots.proofs.root_quick.QuickLaws.{some-limit, small-reach}
-use Rattle.roots.proofs.root_quick.QuickRoot.{root-above, root-here}
+use Rattle.roots.proofs.root_quick.QuickRoot.{root-above, root-below}
 use borrow.Author.Needs.{needs}
 use Rattle.roots.proofs.root_quick.settle.Statement.{statement}
 use Rattle.roots.proofs.root_quick.settle.Tie as tie
@@ -42,14 +42,14 @@ module _
     some : h + 3 * k ≤ p + 2 * k * (p / (2 * m + 1 + 2 * k)) → 0 < p
     some close = some-limit p h (3 * k) (2 * k) (p / (2 * m + 1 + 2 * k)) (2 * m + 1) reach (omega arith) (omega (arith, asked .from)) close
 
-    is-here : placed h p (3 * k) (2 * k * (p / (2 * m + 1 + 2 * k))) Here → b ≡ nearestRoot k n g
-    is-here (over, close) =
+    is-above : placed h p (3 * k) (2 * k * (p / (2 * m + 1 + 2 * k))) Above → b ≡ nearestRoot k n g
+    is-above (over, close) =
         let back : b ≡ b - 1 + 1 = omega arith in
         back ∙ root-above k (b - 1) m q n g p h (p / (2 * m + 1 + 2 * k)) read asked (omega arith) (limit (some (omega arith))) near reach over close
 
     is-below : placed h p (3 * k) (2 * k * (p / (2 * m + 1 + 2 * k))) Below → 2 ^ 52 < m → b - 1 ≡ nearestRoot k n g
     is-below (under, close) inner =
-        root-here k (b - 1) m q n g p h (p / (2 * m + 1 + 2 * k)) read asked (omega arith) (limit (some close)) near reach inner under close
+        root-below k (b - 1) m q n g p h (p / (2 * m + 1 + 2 * k)) read asked (omega arith) (limit (some close)) near reach inner under close
 
 returns-4 : tie.Need-returns-4
 returns-4 c =
@@ -58,7 +58,7 @@ returns-4 c =
     let limited = upper-at .before .before in
     let read = limited .before .before .before in
     let start = read .before .before .before in
-    is-here (read .units-of .ensures) (start .pre) (read .before .before .if1 .left) (read .before .if2 .left) (limited .limit .ensures) (upper-at .upper .ensures)
+    is-above (read .units-of .ensures) (start .pre) (read .before .before .if1 .left) (read .before .if2 .left) (limited .limit .ensures) (upper-at .upper .ensures)
     (rw (c .enum-told .given .1) at (placed-at .place-of .ensures))
 
 returns-5 : tie.Need-returns-5

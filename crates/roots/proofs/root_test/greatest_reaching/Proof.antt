@@ -13,17 +13,17 @@ use Rattle.roots.proofs.root_test.greatest_reaching.Tie as tie
 
 record Bracketed (k digits places lo hi : ℕ) : Type 0 where
   apart : lo < hi
-  finite : hi ≤ infinityBits + 1
+  in-range : hi ≤ infinityBits + 1
   passes : reachesRoot k digits places lo ≡ true
   fails : reachesRoot k digits places hi ≡ false
 
 -- a pattern between them that was tested takes the place of one of them
 module _ {k digits places lo hi b : ℕ} (here : Bracketed k digits places lo hi) (above : lo < b) (below : b < hi) where
   raised : reachesRoot k digits places b ≡ true → Bracketed k digits places b hi
-  raised t = record { apart = below; finite = here .finite; passes = t; fails = here .fails }
+  raised t = record { apart = below; in-range = here .in-range; passes = t; fails = here .fails }
 
   lowered : reachesRoot k digits places b ≡ false → Bracketed k digits places lo b
-  lowered f = record { apart = above; finite = omega (arith, here .finite); passes = here .passes; fails = f }
+  lowered f = record { apart = above; in-range = omega (arith, here .in-range); passes = here .passes; fails = f }
 
 abbrev Inv-loop : tie.InvT-loop
 Inv-loop k x guess lo₀ hi₀ next₀ stride₀ lo hi next stride =
@@ -36,7 +36,7 @@ loop-holds : tie.Need-loop-holds Inv-loop μ-loop
 loop-holds c = (
   record {
     apart = omega arith;
-    finite = omega arith;
+    in-range = omega arith;
     passes = zero-reaches _ _ _ (c .pre .from);
     fails = fails-past-infinity _ _ _ (infinityBits + 1) (omega arith);
   },
