@@ -97,7 +97,7 @@ def take_end(outcome, fields):
     if status not in ENDS or not is_double(h) or not all(re.fullmatch("[0-9]{1,20}", count) for count in counts):
         return "is no end line"
     if len(counts) == len(COUNTERS) - 1:
-        return "is the end line of an earlier edition, which did not count the start's derivative: run the job again"
+        return "is the end line of an older program, which did not count the start's derivative: run the job again"
     if len(counts) != len(COUNTERS) or counts[-1] not in ("0", "1"):
         return "is no end line"
     outcome.ended = fields

@@ -146,7 +146,7 @@ class Finished(unittest.TestCase):
     def test_an_end_line_that_lacks_the_start(self):
         came = read(FIRST_LINES.replace(" 3 1 1 0\n", " 3 1 1\n"))
         self.assertFalse(came.finished)
-        self.assertIn("line 4 of the output is the end line of an earlier edition", came.status())
+        self.assertIn("line 4 of the output is the end line of an older program", came.status())
         self.assertIn("Do NOT take the last value for the end's", outcome.progress(came))
         self.drawn(came)
         for counts in (" 3 1 1 0 0\n", " 3 1\n", "\n", " 3 1 1 \n", " 3 1 1 2\n", " 3 1 1 00\n"):

@@ -1,7 +1,7 @@
 //! bench DIR: our functions beside the Rust's, on the same numbers, in one run. Ours are driven by the programs in DIR, which
 //! take their own time; the Rust is called here. Rounds alternate and the quickest of each side counts. A row says whether
-//! both came to the same bits: for powers and runs that is asked of the Rust with document 01's powers put in. A power's time
-//! is that of the Rust as it is; a run's is told of both.
+//! both came to the same bits: for powers and runs that is asked of the Rust with document 01's powers as amended put in. A
+//! power's time is that of the Rust as it is; a run's is told of both.
 #[allow(dead_code)]
 #[path = "../../oracle/src/random.rs"]
 mod random;
@@ -167,8 +167,8 @@ fn rescaling(dir: &Path, random: &mut Random) {
     }
 }
 
-/// Whole runs: ours, the Rust with document 01's powers put in, and the Rust as it is, in turn. Ours and the first go the same way
-/// to the bit, so their attempts are the same.
+/// Whole runs: ours, the Rust with document 01's powers as amended put in, and the Rust as it is, in turn. Ours and the first go the
+/// same way to the bit, so their attempts are the same.
 fn runs(dir: &Path) {
     println!();
     println!("{:<30} {:>5} {:>8} {:>30} {:>30} {:>17}", "", "", "", "a run, us", "an attempt, ns", "ratio to");
@@ -183,7 +183,7 @@ fn runs(dir: &Path) {
     }
 }
 
-/// The job program as a whole process beside one over the Rust with document 01's powers put in: reading, solving, printing.
+/// The job program as a whole process beside one over the Rust with document 01's powers as amended put in: reading, solving, printing.
 fn jobs(dir: &Path, random: &mut Random) {
     println!();
     println!("{:<26} {:>8} {:>10} {:>10} {:>8}  {}", "a job, as a process", "lines", "ours, ms", "patched", "ratio", "same bytes");

@@ -1,5 +1,5 @@
-//! Ordinary jobs, printed as the job program prints them, so that the Rust with document 01's powers and the Rust
-//! as it is can be held side by side.
+//! Ordinary jobs, printed as the job program prints them, so that the Rust with document 01's powers as amended and the Rust as it is
+//! can be held side by side.
 use crate::config::Config;
 use crate::make::Honest;
 use crate::random::Random;
@@ -30,16 +30,19 @@ pub fn jobs(count: u64, seed: u64) -> String {
     text
 }
 
-/// How many jobs of two such texts agree, and in what.
+/// How many jobs of two such texts agree, and in what; and how many lines come before the first that differs.
 pub fn agreement(one: &str, other: &str) -> String {
     let (one, other): (Vec<&str>, Vec<&str>) = (one.split("job\n").skip(1).collect(), other.split("job\n").skip(1).collect());
     let agree = |part: fn(&str) -> Vec<&str>| one.iter().zip(&other).filter(|(a, b)| part(a) == part(b)).count();
+    let before = |(a, b): (&&str, &&str)| a.lines().zip(b.lines()).take_while(|(a, b)| a == b).count();
     format!(
-        "of {} jobs the same lines {}, the same counters {}, the same status {}\n",
+        "of {} jobs the same lines {}, the same counters {}, the same status {}; {} of {} lines before the first that differs\n",
         one.len(),
         agree(|job| job.lines().collect()),
         agree(|job| job.lines().last().unwrap().split(' ').skip(3).collect()),
         agree(|job| job.lines().last().unwrap().split(' ').take(2).collect()),
+        one.iter().zip(&other).map(before).sum::<usize>(),
+        other.iter().map(|job| job.lines().count()).sum::<usize>(),
     )
 }
 

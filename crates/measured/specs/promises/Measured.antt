@@ -1,6 +1,6 @@
 -- The lines of document 01 that were measured on the bench and are to be proved, as one list under a single proof: each is
--- what the definitions compute. The list is the second edition's: one line is another than in the first, and says so. A number is written `fin s m e`, the number m * 2 ^ e, negative where s is true; `negsuc k`
--- is the exponent -(k + 1).
+-- what the definitions compute. The list is the second edition's: one line differs from the first's, and says so. A number is
+-- written `fin s m e`, the number m * 2 ^ e, negative where s is true; `negsuc k` is the exponent -(k + 1).
 use mathlib.Core.Path.{_≡_, refl}
 use mathlib.Core.Bool.{true, false}
 use mathlib.Core.List.{[], _∷_}
@@ -31,8 +31,8 @@ pub record Measured : Type 0 where
   -- square root of 2.25 is 1.5; of 2^-1074 is 2^-537
   pub sqrt-2·25 : sqrtOf (fin false 9 (negsuc 1)) ≡ fin false 3 (negsuc 0)
   pub sqrt-least : sqrtOf (fin false 1 (negsuc 1073)) ≡ fin false 1 (negsuc 536)
-  -- inverse root: (0.25, 2) 2; (8, 3) 0.5; (10, 1) 3FB999999999999A, to the nearest since the second edition (02 §4; in the first, rounded
-  -- down, 3FB9999999999999); (0, 4) +infinity
+  -- inverse root: (0.25, 2) 2; (8, 3) 0.5; (10, 1) 3FB999999999999A, to the nearest since the second edition (02 §4), where the
+  -- first has 3FB9999999999999, rounded down; (0, 4) +infinity
   pub root-quarter : inverseRootOf 2 (fin false 1 (negsuc 1)) ≡ gives (plus 1 1)
   pub root-eight : inverseRootOf 3 (plus 1 3) ≡ gives half
   pub root-ten : inverseRootOf 1 (plus 5 1) ≡ gives (ofBits binary64 0x3FB9_9999_9999_999A)
