@@ -1,4 +1,5 @@
 //! A run's configuration as words, and document 01's refusals at the beginning.
+use crate::GUARDED;
 use crate::words::{Stream, Unfit, hex, word, words_of};
 use ivp::error::{ConfigError, Error};
 use ivp::matrix::MatrixStorage;
@@ -16,12 +17,14 @@ pub struct Config {
     pub rtol: Tolerance,
     pub atol: Tolerance,
     pub y0: Vec<f64>,
+    /// 02 §8
+    pub guarded: bool,
 }
 
 const SCALAR: u64 = u64::MAX;
 
 impl Config {
-    /// The Rust's defaults but for the limits.
+    /// The Rust's defaults but for the limits, guarded as this build is.
     pub fn plain(max_steps: u64, newton_maxiter: u64, x0: f64, xend: f64, y0: Vec<f64>) -> Config {
         Config {
             max_steps,
@@ -35,12 +38,13 @@ impl Config {
             rtol: Tolerance::Scalar(1e-3),
             atol: Tolerance::Scalar(1e-6),
             y0,
+            guarded: GUARDED,
         }
     }
 
     pub fn words(&self) -> Vec<u64> {
         let given = [self.max_step, self.min_step, self.newton_tol, self.first_step];
-        let flags = (0..4).filter(|&i| given[i].is_some()).map(|i| 1 << i).sum();
+        let flags = (0..4).filter(|&i| given[i].is_some()).map(|i| 1 << i).sum::<u64>() | u64::from(self.guarded) << 4;
         let mut words = vec![0, self.y0.len() as u64, self.max_steps, self.newton_maxiter, flags, word(self.x0), word(self.xend)];
         words.extend(given.map(|g| g.map_or(0, word)));
         for tolerance in [&self.rtol, &self.atol] {
@@ -75,6 +79,7 @@ impl Config {
             rtol: read_tolerance(stream)?,
             atol: read_tolerance(stream)?,
             y0: stream.doubles(n)?,
+            guarded: flags >> 4 & 1 == 1,
         })
     }
 

@@ -1,5 +1,5 @@
-//! edit EDITS FROM TO: copies the folder FROM to TO with the edits made. An edit is `file:`, `old:` and `new:`,
-//! a line each; `old:` may be repeated for text of several lines. Each old text must stand in its file exactly
+//! edit EDITS .. FROM TO: copies the folder FROM to TO with the edits made, file by file. An edit is `file:`, `old:` and
+//! `new:`, a line each; the last two may be repeated for text of several lines. Each old text must stand in its file exactly
 //! once, or nothing is made and the exit status is 1.
 use std::{collections::BTreeMap, fs, path::Path, process::exit};
 
@@ -11,22 +11,28 @@ struct Edit {
 
 fn main() {
     let args: Vec<String> = std::env::args().collect();
-    let [_, edits, from, to] = &args[..] else { fail("edit EDITS FROM TO") };
+    let [_, edits @ .., from, to] = &args[..] else { fail("edit EDITS .. FROM TO") };
     let mut texts = BTreeMap::new();
     read_tree(Path::new(from), "", &mut texts);
-    for edit in read_edits(edits) {
-        let Some(text) = texts.get_mut(&edit.file) else { fail(&format!("{edits}: no file {}", edit.file)) };
-        let found = text.matches(&edit.old).count();
-        if found != 1 {
-            fail(&format!("{edits}: found {found} times in {}, not once:\n{}", edit.file, edit.old));
+    for path in edits {
+        for edit in read_edits(path) {
+            make(path, &edit, &mut texts);
         }
-        *text = text.replacen(&edit.old, &edit.new, 1);
     }
     for (name, text) in texts {
         let path = Path::new(to).join(name);
         fs::create_dir_all(path.parent().unwrap()).unwrap();
         fs::write(path, text).unwrap();
     }
+}
+
+fn make(path: &str, edit: &Edit, texts: &mut BTreeMap<String, String>) {
+    let Some(text) = texts.get_mut(&edit.file) else { fail(&format!("{path}: no file {}", edit.file)) };
+    let found = text.matches(&edit.old).count();
+    if found != 1 {
+        fail(&format!("{path}: found {found} times in {}, not once:\n{}", edit.file, edit.old));
+    }
+    *text = text.replacen(&edit.old, &edit.new, 1);
 }
 
 fn fail(why: &str) -> ! {
@@ -46,12 +52,9 @@ fn read_edits(path: &str) -> Vec<Edit> {
         match (key, last) {
             ("file", _) => edits.push(Edit { file: rest.into(), old: String::new(), new: String::new() }),
             ("old", "file") => edits.last_mut().unwrap().old = rest.into(),
-            ("old", "old") => {
-                let old = &mut edits.last_mut().unwrap().old;
-                old.push('\n');
-                old.push_str(rest);
-            }
+            ("old", "old") => add_line(&mut edits.last_mut().unwrap().old, rest),
             ("new", "old") => edits.last_mut().unwrap().new = rest.into(),
+            ("new", "new") => add_line(&mut edits.last_mut().unwrap().new, rest),
             _ => fail(&format!("{path}: {line}")),
         }
         last = match key {
@@ -61,6 +64,11 @@ fn read_edits(path: &str) -> Vec<Edit> {
         };
     }
     edits
+}
+
+fn add_line(text: &mut String, line: &str) {
+    text.push('\n');
+    text.push_str(line);
 }
 
 fn read_tree(dir: &Path, prefix: &str, texts: &mut BTreeMap<String, String>) {

@@ -1,9 +1,11 @@
 //! Cases whose answers document 01, the transcript's paper, docs/DIFFERENCES.md and, for the inverse root of numbers below the normal
-//! ones, crates/roots/specs/promises/Overflow.antt print; and its hardest roundings. They stand at the head of the stored sample.
+//! ones, crates/roots/specs/promises/Overflow.antt print; and its hardest roundings. Those of each setting stand at the head of its
+//! part of the stored sample.
 use crate::config::Config;
 use crate::make::record;
 use crate::systems::System;
-use crate::ways::ways;
+use crate::GUARDED;
+use crate::ways::{nan_errors, ways};
 use crate::words::{word, words_of};
 use ivp::methods::Tolerance;
 
@@ -12,12 +14,12 @@ pub struct Known {
     pub text: &'static str,
 }
 
+/// Of the guarded setting a few runs alone, since no leaf depends on it; of the other all, and those runs again.
 pub fn known() -> Vec<Known> {
-    let mut all = leaves();
-    all.extend(interpolations());
-    all.extend(runs());
-    all.extend(ways());
-    all
+    if GUARDED {
+        return nan_errors();
+    }
+    [leaves(), interpolations(), runs(), ways(), nan_errors()].into_iter().flatten().collect()
 }
 
 fn leaves() -> Vec<Known> {

@@ -1,18 +1,22 @@
 //! Runs at random: a problem, settings and a player who replies, all from one seed, with the replies written down.
+use crate::GUARDED;
+use crate::brink::brink;
 use crate::config::Config;
 use crate::leaves::case_matrix;
 use crate::random::Random;
 use crate::run::{Replies, Told, run};
-use crate::systems::{Problem, System, brink};
+use crate::systems::{Problem, System};
 use crate::words::{Stream, word, words_of};
 use ivp::methods::Tolerance;
 
 /// How the replies go wrong.
-enum Manner {
+pub enum Manner {
     /// they do not
     Honest,
     /// derivatives as they should be; Jacobians of another system
     WrongJacobian(f64),
+    /// derivatives as they should be; Jacobians of any numbers up to a size
+    AnyJacobian { size: f64 },
     /// now and then a number is any double
     Faulty { once_in: usize },
     /// all numbers are any doubles
@@ -31,6 +35,9 @@ struct Player<'a> {
     random: &'a mut Random,
     system: System,
     manner: Manner,
+    /// once in so many numbers after the start notice: a NaN or an infinity
+    nans: usize,
+    started: bool,
     /// once in so many notices
     interrupts: usize,
     modifies: usize,
@@ -50,6 +57,9 @@ impl Player<'_> {
             if spoilt {
                 *x = self.random.edge();
             }
+            if self.started && self.random.once_in(self.nans) {
+                *x = self.random.pick(&[f64::NAN, f64::NAN, f64::INFINITY, f64::NEG_INFINITY]);
+            }
             *x = f64::from_bits(word(*x));
         }
         self.words.extend(words_of(xs));
@@ -67,6 +77,7 @@ impl Replies for Player<'_> {
         self.system.jacobian(x, y, rows);
         match self.manner {
             Manner::WrongJacobian(factor) => rows.iter_mut().for_each(|e| *e *= factor),
+            Manner::AnyJacobian { size } => rows.fill_with(|| size * self.random.signed()),
             Manner::Singular { c } => rows.copy_from_slice(&singular_jacobian(self.random, n, c)),
             Manner::SingularAtOrder { h } => {
                 let c = h / f64::from_bits(ALPHA[self.random.from_to(1, 5)]);
@@ -79,6 +90,7 @@ impl Replies for Player<'_> {
     }
 
     fn told(&mut self, x: f64, y: &[f64]) -> Told {
+        self.started = true;
         if self.random.once_in(self.interrupts) {
             self.words.push(1);
             return Told::Interrupt;
@@ -95,7 +107,7 @@ impl Replies for Player<'_> {
             _ => x,
         }];
         let edges = self.random.once_in(6);
-        let scale = self.random.signed();
+        let scale = if self.random.once_in(4) { self.random.pick(&[1.0, -1.0]) } else { self.random.signed() };
         new.extend(y.iter().map(|&v| if edges { self.random.edge() } else { v * scale }));
         self.words.push(2);
         self.send(&mut new);
@@ -124,7 +136,9 @@ impl Replies for Honest {
 pub fn record(config: &Config, system: System) -> Vec<u64> {
     let random = &mut Random::new(0);
     let words = config.words();
-    let mut player = Player { random, system, manner: Manner::Honest, interrupts: usize::MAX, modifies: usize::MAX, xend: config.xend, words };
+    let never = usize::MAX;
+    let xend = config.xend;
+    let mut player = Player { random, system, manner: Manner::Honest, nans: never, started: false, interrupts: never, modifies: never, xend, words };
     run(config, &mut player, &mut String::new());
     player.words
 }
@@ -145,15 +159,36 @@ fn inverse_of(c: f64) -> f64 {
     [j, j.next_up(), j.next_down()].into_iter().find(|&j| -c * j + 1.0 == 0.0).unwrap_or(j)
 }
 
-/// The words of a run, with its replies.
+/// The words of a run, with its replies. Guarded runs are more often those for which the setting is made.
 pub fn case_run(random: &mut Random) -> Vec<u64> {
-    let at_brink = random.once_in(20);
-    let mut problem = if at_brink { brink(random) } else { Problem::random(random) };
+    let at_brink = if GUARDED { !random.once_in(3) } else { random.once_in(12) };
+    let (mut config, system, manner) = if at_brink { brink(random) } else { anywhere(random) };
+    bound_size(random, &mut config);
+    let words = config.words();
+    // as it will be read: a NaN here may be signalling, and a case's never is
+    let Ok(config) = Config::read(&mut Stream::of_words(words[1..].to_vec())) else { unreachable!() };
+    let mut player = Player {
+        system,
+        manner,
+        nans: if random.once_in(if at_brink { 6 } else { 40 }) { random.pick(&[10, 60]) } else { usize::MAX },
+        started: false,
+        interrupts: random.pick(&[30, 200, 1000]),
+        modifies: random.pick(&[8, 100, 1000]),
+        xend: config.xend,
+        words,
+        random,
+    };
+    run(&config, &mut player, &mut String::new());
+    player.words
+}
+
+/// A problem from its natural beginning, settings that may be odd, and replies that may go wrong.
+fn anywhere(random: &mut Random) -> (Config, System, Manner) {
+    let mut problem = Problem::random(random);
     let mut config = Config::plain(0, 4, problem.x0, problem.xend, problem.y0);
     ordinary_settings(random, &mut config);
     let mut manner = Manner::Honest;
     match random.below(12) {
-        _ if at_brink => brink_settings(random, &mut config),
         0..=4 => {}
         5 | 6 => odd_settings(random, &mut config),
         7 => manner = Manner::WrongJacobian(random.pick(&[0.0, -1.0, 0.5, 2.0, 100.0])),
@@ -173,21 +208,7 @@ pub fn case_run(random: &mut Random) -> Vec<u64> {
         }
         _ => refused_settings(random, &mut config),
     }
-    bound_size(random, &mut config);
-    let words = config.words();
-    // as it will be read: a NaN here may be signalling, and a case's never is
-    let Ok(config) = Config::read(&mut Stream::of_words(words[1..].to_vec())) else { unreachable!() };
-    let mut player = Player {
-        system: problem.system,
-        manner,
-        interrupts: random.pick(&[30, 200, 1000]),
-        modifies: random.pick(&[8, 100, 1000]),
-        xend: config.xend,
-        words,
-        random,
-    };
-    run(&config, &mut player, &mut String::new());
-    player.words
+    (config, problem.system, manner)
 }
 
 fn ordinary_settings(random: &mut Random, config: &mut Config) {
@@ -278,14 +299,6 @@ fn singular_settings(random: &mut Random, config: &mut Config) -> Manner {
     config.max_step = None;
     config.min_step = None;
     Manner::Singular { c: if config.xend < config.x0 { -c } else { c } }
-}
-
-/// Steps of 1 and tolerances that let a huge correction pass.
-fn brink_settings(random: &mut Random, config: &mut Config) {
-    steady_settings(random, config, 1.0);
-    config.newton_maxiter = 4;
-    config.rtol = Tolerance::Scalar(random.pick(&[0.0, 0.0, 1e-3, 1.0]));
-    config.atol = Tolerance::Scalar(random.pick(&[1e300, 1e307, 1e308, f64::MAX]));
 }
 
 /// One cause of a refusal at the beginning, or several, for their order; also n = 0, which comes before them.

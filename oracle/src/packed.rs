@@ -26,6 +26,8 @@ pub fn answer_job(bytes: &[u8]) -> String {
     config.first_step = (automatic == 0).then_some(doubles[2]);
     config.rtol = Tolerance::Scalar(doubles[3]);
     config.atol = Tolerance::Scalar(doubles[4]);
+    // a job has no such setting
+    config.guarded = false;
     let mut text = String::new();
     run(&config, &mut Honest(System::Linear { a: doubles[5 + n..].to_vec() }), &mut text);
     text.lines().filter_map(|line| job_line(line, n)).collect()
@@ -105,7 +107,7 @@ pub fn random_job(random: &mut Random) -> Vec<u8> {
     job.bytes()
 }
 
-/// Jobs that document 01 prints or judges by its words, and what is printed for them.
+/// Jobs that document 01 prints or judges by its words, two that tell an infinite y, and what is printed for them.
 pub fn known_jobs() -> Vec<(&'static str, Vec<u8>, &'static str)> {
     let first = |max_steps| Job { n: 1, max_steps, newton_maxiter: 4, automatic: false, padding: 0, doubles: vec![0.0, 1.0, 0.5, 1e-3, 1e-6, 1.0, 0.0] };
     let none = |padding, first_step| Job { n: 0, max_steps: 0, newton_maxiter: 127, automatic: true, padding, doubles: vec![0.0, 1.0, first_step, -1.0, -1.0] };
@@ -115,6 +117,9 @@ pub fn known_jobs() -> Vec<(&'static str, Vec<u8>, &'static str)> {
         job.doubles[2] = first_step;
         job
     };
+    // 02 §8: the error norm is a NaN, since y overflows under relative tolerance 0, and the step passes. With an infinite absolute
+    // tolerance the first pass converges; with 1e308 the second does, whose correction of a few last bits is what overflows
+    let overflowing = |xend, atol, y0, a| Job { n: 1, max_steps: 1, newton_maxiter: 4, automatic: false, padding: 0, doubles: vec![0.0, xend, xend, 0.0, atol, y0, a] };
     vec![
         ("the first job", first(100_000).bytes(), FIRST_JOB),
         ("one step", first(1).bytes(), "I 0000000000000000 3FF0000000000000\nS 3FE0000000000000 3FF0000000000000\nE 2 3FE0000000000000 1 1 0 2 1 1 0\n"),
@@ -127,6 +132,8 @@ pub fn known_jobs() -> Vec<(&'static str, Vec<u8>, &'static str)> {
         ("n 33 of five bytes", vec![33 << 2, 0, 0, 0, 0], "R 1\n"),
         ("n 33 of four bytes", vec![33 << 2, 0, 0, 0], "R 17\n"),
         ("empty", Vec::new(), "R 17\n"),
+        ("an infinite y, any absolute error allowed", overflowing(1.0, f64::INFINITY, 1e308, 0.5).bytes(), "I 0000000000000000 7FE1CCF385EBC8A0\nS 3FF0000000000000 7FF0000000000000\nE 0 3FF0000000000000 1 1 0 2 1 1 0\n"),
+        ("an infinite y, absolute tolerance 1e308", overflowing(1.125, 1e308, 7.742419961721948e306, 1.0).bytes(), "I 0000000000000000 7FA60D17C61DA194\nS 3FF2000000000000 7FF0000000000000\nE 0 3FF2000000000000 1 1 0 3 1 1 0\n"),
     ]
 }
 

@@ -1,4 +1,5 @@
 //! Kind 0, a run: the Rust's `solve` with every question and notice written down as it comes.
+use crate::GUARDED;
 use crate::config::{Config, first_entries};
 use crate::words::{Stream, Unfit, hex, push_doubles};
 use ivp::dense::StepInterpolant;
@@ -9,6 +10,7 @@ use ivp::solout::{ControlFlag, SolOut};
 use ivp::status::Status;
 use std::cell::RefCell;
 use std::panic::{AssertUnwindSafe, catch_unwind, resume_unwind};
+use std::process::exit;
 
 pub enum Told {
     Continue,
@@ -83,6 +85,11 @@ impl SolOut for Listener<'_, '_> {
 
 /// The whole run, its lines added to the text as they come: what was asked before an unwinding stays.
 pub fn run(config: &Config, replies: &mut dyn Replies, text: &mut String) {
+    if config.guarded != GUARDED {
+        let (setting, other) = if GUARDED { ("guarded", "oracle") } else { ("unguarded", "oracle-guarded") };
+        eprintln!("oracle: this oracle answers {setting} runs alone: use {other}");
+        exit(2)
+    }
     if let Some(line) = config.refused_before() {
         *text += &line;
         text.push('\n');

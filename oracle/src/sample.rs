@@ -1,7 +1,7 @@
 //! A small sample of cases that visits every branch: for the stored test, and to see what the cases at random reach.
 use crate::known::known;
 use crate::random::Random;
-use crate::{answers, make_case};
+use crate::{GUARDED, answers, make_case, row_of_seeds};
 use crate::words::Stream;
 use std::collections::{BTreeMap, BTreeSet};
 
@@ -9,7 +9,7 @@ use std::collections::{BTreeMap, BTreeSet};
 pub fn sample(kinds: &[u64], tried: u64, seed: u64) -> Vec<Vec<u64>> {
     let mut cases: Vec<Vec<u64>> = known().into_iter().map(|k| k.words).filter(|w| kinds.contains(&w[0])).collect();
     for &kind in kinds {
-        let mut random = Random::new(seed.wrapping_mul(8).wrapping_add(kind));
+        let mut random = Random::new(row_of_seeds(kind, seed));
         match kind {
             0 => cases.extend(branching(tried, &mut random)),
             1 | 2 => cases.extend((0..400).map(|_| make_case(kind, &mut random))),
@@ -73,7 +73,16 @@ fn visited(case: &[u64]) -> BTreeSet<String> {
     let answer = answers(Stream::of_words(case.to_vec()));
     let mut visited = marks::take();
     let mut last = answer.lines().last().unwrap().split(' ');
-    visited.insert(format!("ends {} {}", last.next().unwrap(), last.next().unwrap()));
+    let end = format!("ends {} {}", last.next().unwrap(), last.next().unwrap());
+    if GUARDED {
+        // what else there is to visit, the unguarded runs visit
+        visited.retain(|branch| branch.starts_with("guarded"));
+        if !visited.is_empty() {
+            visited.insert(format!("guarded: {end}"));
+        }
+    } else {
+        visited.insert(end);
+    }
     visited
 }
 

@@ -18,8 +18,8 @@ pub enum System {
     Blowup,
     /// a right side that jumps, so that Newton's method fails at the jump
     Relay { height: f64 },
-    /// nothing, and after the turn slopes so steep that a state close to the largest double overflows
-    Brink { turn: f64, slopes: [f64; 4] },
+    /// one slope, and from the turn on others, eighth by eighth of a step h, or wavering with y; each component has its share
+    Brink { x0: f64, h: f64, turn: f64, before: f64, slopes: [f64; 4], shares: Vec<f64>, wavers: bool },
 }
 
 /// A system with its natural beginning.
@@ -58,15 +58,6 @@ impl Problem {
             _ => problem(System::Relay { height: random.decade(0.0, 4.0) }, random.decade(-1.0, 1.0), some(random, size.min(4))),
         }
     }
-}
-
-/// A state close to the largest double, for steps of 1: what it is when it overflows, no scale can say.
-pub fn brink(random: &mut Random) -> Problem {
-    let steep = [0.0, 1e306, 1e307, 1e308, f64::MAX];
-    let slopes = [(); 4].map(|_| random.pick(&steep) * random.pick(&[1.0, -1.0]));
-    let turn = if random.once_in(2) { random.from_to(1, 3) } else { random.from_to(4, 30) } as f64 - 0.5;
-    let y0 = (0..random.from_to(1, 2)).map(|_| 1.7e308 * random.pick(&[1.0, -1.0, 0.9])).collect();
-    Problem { system: System::Brink { turn, slopes }, x0: 0.0, xend: 40.0, y0 }
 }
 
 fn some(random: &mut Random, size: usize) -> Vec<f64> {
@@ -146,9 +137,13 @@ impl System {
                     dydx[i] = y[i] * y[i];
                 }
             }
-            System::Brink { turn, slopes } => {
-                let place = if x < *turn { None } else { Some((8.0 * (x - turn)).min(3.0) as usize) };
-                dydx.fill(place.map_or(0.0, |i| slopes[i]));
+            System::Brink { x0, h, turn, before, slopes, shares, wavers } => {
+                let beyond = (x - x0).abs() / h - turn;
+                let place = if *wavers { y[0].to_bits() as usize % 4 } else { (8.0 * beyond).min(3.0) as usize };
+                let slope = if beyond < 0.0 { *before } else { slopes[place] };
+                for i in 0..n {
+                    dydx[i] = shares[i] * slope;
+                }
             }
             System::Relay { height } => {
                 for i in 0..n {

@@ -1,4 +1,6 @@
-//! The Rust's own ways that docs/DIFFERENCES.md lists, each by the smallest input found that shows it. All are n 1.
+//! The Rust's own ways that docs/DIFFERENCES.md lists, each by the smallest input found that shows it, and the guarded rule beside the
+//! way that it amends. All are n 1.
+use crate::GUARDED;
 use crate::config::Config;
 use crate::known::Known;
 use crate::run::{Replies, Told, run};
@@ -9,8 +11,8 @@ use ivp::methods::Tolerance;
 struct Scripted {
     slope: f64,
     jacobian: f64,
-    /// from this x on y' is the number instead
-    turn: Option<(f64, f64)>,
+    /// y' is the one number before this x instead, and the other from there on
+    turn: Option<(f64, f64, f64)>,
     told: Vec<Told>,
     words: Vec<u64>,
 }
@@ -18,8 +20,8 @@ struct Scripted {
 impl Replies for Scripted {
     fn derivative(&mut self, x: f64, y: &[f64], dydx: &mut [f64]) {
         dydx[0] = match self.turn {
-            Some((turn, _)) if x < turn => 0.0,
-            Some((_, after)) => after,
+            Some((turn, before, _)) if x < turn => before,
+            Some((_, _, after)) => after,
             None => 0.0 + self.slope * y[0],
         };
         self.words.extend(words_of(dydx));
@@ -263,14 +265,135 @@ fn order() -> Vec<Known> {
     brink.max_step = Some(1.0);
     brink.rtol = Tolerance::Scalar(0.0);
     brink.atol = Tolerance::Scalar(1e308);
-    let overflow = Scripted { slope: 0.0, jacobian: 0.0, turn: Some((1.5, 1e308)), told: Vec::new(), words: Vec::new() };
     let mut eighth = half(2);
     eighth.first_step = Some(0.125);
     eighth.rtol = Tolerance::Scalar(0.1);
     eighth.atol = Tolerance::Scalar(0.1);
     vec![
         // the factors are 0, NaN, NaN: the order rises to 2, and the step's factor is 0
-        Known { words: played(&brink, overflow), text: "+J 4000000000000000 7FF0000000000000\nE 3 0000000000000000 2 2 0 4 2 1 0\n" },
+        Known { words: turning(&brink, (1.5, 0.0, 1e308)), text: "+J 4000000000000000 7FF0000000000000\nE 3 0000000000000000 2 2 0 4 2 1 0\n" },
         Known { words: linear(&eighth, -1.0), text: "+J 3FD0000000000000 3FE9299AE38D5FA4\nE 2 3FF4000000000000 2 2 0 5 2 1 0\n" },
     ]
 }
+
+/// 02 §8: a NaN error norm, unguarded a pass, guarded an error rejection of factor 0.5. The texts stand in that order; the last two
+/// runs meet none.
+pub fn nan_errors() -> Vec<Known> {
+    let one = |unguarded, guarded| if GUARDED { guarded } else { unguarded };
+    // y' = 0 before the turn, and 1e308 from there on
+    let overflowing = |config: &Config, turn| turning(config, (turn, 0.0, 1e308));
+    let mut far = largest(9);
+    far.x0 = 2f64.powi(48);
+    far.xend = far.x0 + 1.0;
+    let mut short = largest(2);
+    short.first_step = Some(0.05);
+    let mut again = largest(9);
+    again.y0 = vec![1e308];
+    again.atol = Tolerance::Scalar(1e308);
+    let mut second = largest(9);
+    second.y0 = vec![1.4e308];
+    second.xend = 3.0;
+    second.max_step = Some(1.0);
+    second.atol = Tolerance::Scalar(1e308);
+    let mut least = largest(1);
+    least.y0 = vec![f64::from_bits(1)];
+    least.rtol = Tolerance::Scalar(f64::INFINITY);
+    let mut relative = largest(9);
+    relative.rtol = Tolerance::Scalar(1e-3);
+    vec![
+        Known { words: overflowing(&largest(1), 0.5), text: one(INFINITE, REJECTED) },
+        // it creeps up to the turn
+        Known { words: overflowing(&largest(9), 0.5), text: one(INFINITE, "+E 2 3FA0000000000000 9 4 5 15 1 4 0\n") },
+        // far from 0 two halvings are the last
+        Known {
+            words: overflowing(&far, far.x0 + 0.0625),
+            text: one("+E 0 3FF0000000000000 1 1 0 3 1 1 0\n", "+E 3 3FD0000000000000 2 0 2 5 1 2 0\n"),
+        },
+        // c moved by less than 0.1: two rejections and one factoring
+        Known {
+            words: overflowing(&short, 0.01),
+            text: one("+J 3FB999999999999A 7FF0000000000000\nE 2 3F9999999999999A 2 1 1 7 2 1 0\n", "+E 2 3F8999999999999A 2 0 2 5 1 1 0\n"),
+        },
+        // half the step does not overflow, and the end is reached
+        Known { words: overflowing(&again, 1.0), text: one("+E 0 3FF0000000000000 1 1 0 3 1 1 0\n", REJECTED_ONCE) },
+        // at order 2, with differences to be rescaled
+        Known { words: turning(&second, (2.75, 2f64.powi(1000), 1e308)), text: one(INFINITE_AT_ORDER_2, REJECTED_AT_ORDER_2) },
+        // y vanishes, and the relative tolerance is infinite
+        Known {
+            words: linear(&least, -2.0),
+            text: one(
+                "+S 0000000000000000 3FF0000000000000 0000000000000000 3FF0000000000000 0000000000000000 0000000000000000 8000000000000001 0000000000000000 0000000000000000 0000000000000000 0000000000000000 3FF0000000000000\nE 0 3FF0000000000000 1 1 0 2 1 1 0\n",
+                "+D 3FF0000000000000 8000000000000001\nE 2 3FE0000000000000 1 0 1 2 1 1 0\n",
+            ),
+        },
+        // under a relative tolerance above 0 the scale of an infinite y is infinite, and the norm 0: no NaN, and guarded too it passes
+        Known { words: overflowing(&relative, 0.5), text: INFINITE },
+        Known { words: linear(&half(9), -1.0), text: "+E 2 3FC9844D78B376F1 9 7 2 19 3 4 0\n" },
+    ]
+}
+
+/// y0 the largest double, from 0 to 1 by a first step of 1, relative tolerance 0.
+fn largest(max_steps: u64) -> Config {
+    let mut config = half(max_steps);
+    config.y0 = vec![f64::MAX];
+    config.first_step = Some(1.0);
+    config.rtol = Tolerance::Scalar(0.0);
+    config
+}
+
+fn turning(config: &Config, turn: (f64, f64, f64)) -> Vec<u64> {
+    played(config, Scripted { slope: 0.0, jacobian: 0.0, turn: Some(turn), told: Vec::new(), words: Vec::new() })
+}
+
+const INFINITE: &str = "\
+D 0000000000000000 7FEFFFFFFFFFFFFF
+J 0000000000000000 7FEFFFFFFFFFFFFF
+I 0000000000000000 7FEFFFFFFFFFFFFF
+D 3FF0000000000000 7FEFFFFFFFFFFFFF
+D 3FF0000000000000 7FF0000000000000
+S 0000000000000000 3FF0000000000000 0000000000000000 3FF0000000000000 7FF0000000000000 7FF0000000000000 7FDE0B0E966A4D34 0000000000000000 0000000000000000 0000000000000000 0000000000000000 3FF0000000000000
+E 0 3FF0000000000000 1 1 0 3 1 1 0
+";
+
+const REJECTED: &str = "\
+D 0000000000000000 7FEFFFFFFFFFFFFF
+J 0000000000000000 7FEFFFFFFFFFFFFF
+I 0000000000000000 7FEFFFFFFFFFFFFF
+D 3FF0000000000000 7FEFFFFFFFFFFFFF
+D 3FF0000000000000 7FF0000000000000
+E 2 3FE0000000000000 1 0 1 3 1 1 0
+";
+
+const REJECTED_ONCE: &str = "\
+D 0000000000000000 7FE1CCF385EBC8A0
+J 0000000000000000 7FE1CCF385EBC8A0
+I 0000000000000000 7FE1CCF385EBC8A0
+D 3FF0000000000000 7FE1CCF385EBC8A0
+D 3FF0000000000000 7FF0000000000000
+D 3FE0000000000000 7FE1CCF385EBC8A0
+S 0000000000000000 3FE0000000000000 0000000000000000 3FE0000000000000 7FE1CCF385EBC8A0 7FE1CCF385EBC8A0 0000000000000000 0000000000000000 0000000000000000 0000000000000000 0000000000000000 3FF0000000000000
+D 3FF0000000000000 7FE1CCF385EBC8A0
+D 3FF0000000000000 7FE94FB72B865BED
+S 3FE0000000000000 3FF0000000000000 3FE0000000000000 3FE0000000000000 7FE94FB72B865BED 7FE94FB72B865BED 7FCE0B0E966A4D34 0000000000000000 0000000000000000 0000000000000000 0000000000000000 3FF0000000000000
+E 0 3FE0000000000000 3 2 1 6 1 2 0
+";
+
+const INFINITE_AT_ORDER_2: &str = "\
++J 4000000000000000 7FE8EBBB9516E5AD
+D 4008000000000000 7FE8EBBBB516E5AD
+D 4008000000000000 7FF0000000000000
+S 4000000000000000 4008000000000000 4000000000000000 3FF0000000000000 7FF0000000000000 7FF0000000000000 7FD55C57871AF0C0 7FD55C57471AF0C0 0000000000000000 0000000000000000 0000000000000000 4000000000000000
+E 0 3FF0000000000000 3 3 0 5 2 2 0
+";
+
+const REJECTED_AT_ORDER_2: &str = "\
++J 4000000000000000 7FE8EBBB9516E5AD
+D 4008000000000000 7FE8EBBBB516E5AD
+D 4008000000000000 7FF0000000000000
+D 4004000000000000 7FE8EBBBA516E5AD
+S 4000000000000000 4004000000000000 4000000000000000 3FE0000000000000 7FE8EBBBA516E5AD 7FE8EBBBA516E5AD 7E60000000000000 0000000000000000 0000000000000000 0000000000000000 0000000000000000 4000000000000000
+D 4008000000000000 7FE8EBBBB516E5AD
+D 4008000000000000 7FEE42D186DDA1DD
+S 4004000000000000 4008000000000000 4004000000000000 3FE0000000000000 7FEE42D186DDA1DD 7FEE42D186DDA1DD 7FC55C57871AF0C0 7FC55C57471AF0C0 0000000000000000 0000000000000000 0000000000000000 4000000000000000
+E 0 3FE0000000000000 5 4 1 8 2 3 0
+";

@@ -33,7 +33,7 @@ ghost use Rattle.matrix.specs.Size.{maxN};
 ghost use Rattle.rules.specs.laws.Ready.{Room, Sane, Ready};
 ghost use Rattle.rules.specs.State.{left, after};
 ghost use Rattle.bdf.specs.Core.{whole, bare, tried};
-ghost use Rattle.rules.specs.Attempt.{told, halved, newtonStart, mustFactor, refactored, attemptAt, guarded, fitted, fittedAttempt, attempt as attemptOf};
+ghost use Rattle.rules.specs.Attempt.{told, halved, newtonStart, mustFactor, refactored, attemptAt, unlessStuck, fitted, fittedAttempt, attempt as attemptOf};
 
 const MIN_POSITIVE: f64 = 2.2250738585072014e-308;
 
@@ -122,9 +122,9 @@ fn attempt_at(ws: &mut [f64], q: &mut [f64], pivot: &mut [usize], p: Core) -> Ou
     newton_start(ws, q, p)
 }
 
-fn guard(ws: &mut [f64], q: &mut [f64], pivot: &mut [usize], p: Core) -> Outcome
+fn unless_stuck(ws: &mut [f64], q: &mut [f64], pivot: &mut [usize], p: Core) -> Outcome
     requires { ⌜ Ready (bare p) (now ws) (now q) × (p .steps .total < p .limits .steps) × (maxN ≤ length (now pivot)) ⌝ }
-    ensures { λ r. ⌜ after (tried r (now (pivot .exit))) (now (ws .exit)) (now (q .exit)) ≡ guarded (whole p (now (pivot .entry))) (now (ws .entry)) (now (q .entry)) ⌝ }
+    ensures { λ r. ⌜ after (tried r (now (pivot .exit))) (now (ws .exit)) (now (q .exit)) ≡ unlessStuck (whole p (now (pivot .entry))) (now (ws .entry)) (now (q .entry)) ⌝ }
 {
     if p.x + 0.1 * number::abs(p.aim.h_signed) == p.x {
         return end(Status::StepSizeTooSmall, p);
@@ -157,7 +157,7 @@ fn fitted_attempt(ws: &mut [f64], q: &mut [f64], pivot: &mut [usize], p: Core) -
         Aimed::At(pace, aim) => {
             r.pace = pace;
             r.aim = aim;
-            guard(ws, q, pivot, r)
+            unless_stuck(ws, q, pivot, r)
         }
     }
 }

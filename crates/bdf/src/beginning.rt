@@ -95,6 +95,7 @@ fn span(s: BDF, x0: f64, xend: f64, rtol_min: f64) -> Span
         hmin: number::abs(or_given(min_step, 0.0)),
         newton_tol: newton_tol(tol, rtol_min),
         first_step,
+        guarded: s.guarded,
     }
 }
 
@@ -154,6 +155,7 @@ fn nothing(answer: Answer) -> Turn
         hmin: 0.0,
         newton_tol: 0.0,
         first_step: Setting::Unset,
+        guarded: false,
     };
     Turn {
         answer,

@@ -33,13 +33,33 @@ ghost use Rattle.matrix.specs.Size.{maxN};
 ghost use Rattle.rules.specs.laws.Ready.{Room, Sane, Ready, Awake, Judging};
 ghost use Rattle.rules.specs.State.{left, after};
 ghost use Rattle.bdf.specs.Core.{whole, bare, tried};
-ghost use Rattle.rules.specs.Step.{errorRejected, stepAccepted, judged, newtonFailed, newtonAgain, iterated as iteratedOf, newtonReplied};
+ghost use Rattle.rules.specs.Step.{errorFails, errorFactor, errorRejected, stepAccepted, judged, newtonFailed, newtonAgain, iterated as iteratedOf, newtonReplied};
+
+fn error_fails(guarded: bool, norm: f64) -> bool
+    ensures { λ r. ⌜ r ≡ errorFails guarded norm ⌝ }
+{
+    if norm > 1.0 {
+        return true;
+    }
+    guarded && norm != norm
+}
+
+// Only a guarded run comes here with a norm that is NaN.
+fn error_factor(order: usize, safety: f64, norm: f64) -> f64
+    requires { ⌜ order ≤ 5 ⌝ }
+    ensures { λ r. ⌜ r ≡ errorFactor order safety norm ⌝ }
+{
+    if norm != norm {
+        return 0.5;
+    }
+    number::max(safety * factor(order + 1, norm), 0.2)
+}
 
 fn error_rejected(ws: &mut [f64], p: Core, safety: f64, norm: f64) -> Outcome
     requires { ⌜ Room (p .n) (now ws) × Sane (bare p) ⌝ }
     ensures { λ r. ⌜ ((pivot : List ℕ) → left (tried r pivot) (now (ws .exit)) ≡ errorRejected (whole p pivot) safety norm (now (ws .entry))) ⌝ }
 {
-    let factor = number::max(safety * factor(p.order + 1, norm), 0.2);
+    let factor = error_factor(p.order, safety, norm);
     rescale_d(ws, p.n, p.order, factor);
     let mut r = p;
     let h = p.pace.h * factor;
@@ -86,7 +106,7 @@ fn judge(ws: &mut [f64], q: &mut [f64], p: Core) -> Outcome
     weigh(ws, p.n, error_const(p.order), DELTA);
     let norm = rhs_norm(ws, p.n);
     let s = safety(p.limits.newton, p.newton.iters);
-    if norm > 1.0 {
+    if error_fails(p.span.guarded, norm) {
         return error_rejected(ws, p, s, norm);
     }
     step_accepted(ws, q, p, s, norm)

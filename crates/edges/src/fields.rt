@@ -139,7 +139,7 @@ pub(crate) fn pivoted(p: Progress, i: usize, row: usize) -> Progress {
     r
 }
 
-// No number in the state is one.
+// No number in the state is one, and its guard is the other way.
 pub(crate) fn no_numbers(p: Progress) -> Progress {
     let nan = 0.0 / 0.0;
     let span = Span {
@@ -149,6 +149,7 @@ pub(crate) fn no_numbers(p: Progress) -> Progress {
         hmin: nan,
         newton_tol: nan,
         first_step: Setting::Given(nan),
+        guarded: !p.span.guarded,
     };
     let aim = Aim {
         h_signed: nan,

@@ -17,7 +17,7 @@ use text::Place;
 const CASES: usize = 5;
 
 // From small to full size; one run with Jacobians that are wrong, so that Newton fails, one whose notices are now and then answered by
-// a modification, and one whose first step is given.
+// a modification, and one whose first step is given and which is guarded.
 fn case(k: usize) -> Case
     ensures { λ r. ⌜ r .n ≤ 32 ⌝ }
 {
@@ -44,7 +44,7 @@ fn system(n: usize, rate: f64, slope: f64, tolerance: f64, modifies: bool, setti
     }
 }
 
-// The Rust's settings but for the first step.
+// The Rust's settings but for the first step, and guarded: no error norm is NaN here, so that nothing comes otherwise.
 fn given(h: f64) -> BDF {
     BDF {
         max_steps: 100000,
@@ -53,6 +53,7 @@ fn given(h: f64) -> BDF {
         newton_maxiter: 4,
         newton_tol: Setting::Unset,
         first_step: Setting::Given(h),
+        guarded: true,
     }
 }
 

@@ -61,7 +61,7 @@ readOf s y0 a =
     if ltb (length s) headLength then (refuses 17, y0, a)
     else headRead s (headOf (headBits s)) y0 a
 
--- the solver's settings for a job: what it does not name is as for a solver that is told nothing, and that is unset
+-- the solver's settings for a job: what it does not name is as for a solver that is told nothing, and that is unset and unguarded
 abbrev pub settingsOf : Job → BDF
 settingsOf job =
     record {
@@ -71,4 +71,5 @@ settingsOf job =
       «newton_maxiter» = job .«newton_maxiter»;
       «newton_tol» = defaults .«newton_tol»;
       «first_step» = job .«first_step»;
+      guarded = defaults .guarded;
     }

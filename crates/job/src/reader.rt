@@ -108,7 +108,7 @@ fn first_step(s: &[u8], automatic: u64) -> Setting
     Setting::Unset
 }
 
-// The solver's settings for a job: those that it does not name are unset.
+// The solver's settings for a job: those that it does not name are unset, and no job is guarded.
 pub fn settings(job: Job) -> BDF
     ensures { λ r. ⌜ r ≡ settingsOf job ⌝ }
 {
@@ -124,5 +124,6 @@ pub fn settings(job: Job) -> BDF
         newton_maxiter: job.newton_maxiter,
         newton_tol,
         first_step,
+        guarded: plain.guarded,
     }
 }

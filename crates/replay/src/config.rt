@@ -47,7 +47,8 @@ pub(crate) fn read(inp: &mut [u8], s: Source, rtols: &mut [f64], atols: &mut [f6
     }
 }
 
-// The nine words in front: max_steps, newton_maxiter, the flags, x0, xend, and then what each flag is for.
+// The nine words in front: max_steps, newton_maxiter, the flags, x0, xend, and then what each of the first four flags is for. The
+// fifth is `guarded`.
 fn settings(head: &[usize; 9]) -> BDF {
     let flags = head[2];
     BDF {
@@ -57,6 +58,7 @@ fn settings(head: &[usize; 9]) -> BDF {
         newton_maxiter: head[1],
         newton_tol: setting(flags / 4, head[7]),
         first_step: setting(flags / 8, head[8]),
+        guarded: flags / 16 % 2 == 1,
     }
 }
 

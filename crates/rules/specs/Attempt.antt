@@ -160,15 +160,15 @@ attemptAt p ws q =
     if mustFactor p then refactored p w q else newtonStart p w q
 
 -- the guard against stagnation, which ends the run before the attempt is counted
-unfoldable pub guarded : Progress → List Float → List Float → After Tried
-guarded p ws q =
+unfoldable pub unlessStuck : Progress → List Float → List Float → After Tried
+unlessStuck p ws q =
     if Ieee.eq (p .x ⊕ tenth ⊗ absOf (p .aim .«h_signed»)) (p .x)
     then after (says (end StepSizeTooSmall p)) ws q
     else attemptAt (total+1 p) ws q
 
 abbrev pub headed : Progress → Aimed → List Float → List Float → After Tried
 headed p AtEnd ws q = after (says (end Success p)) ws q
-headed p (At pace aim) ws q = guarded (withAim (withPace p pace) aim) ws q
+headed p (At pace aim) ws q = unlessStuck (withAim (withPace p pace) aim) ws q
 
 -- the step between its bounds
 unfoldable pub fitted : Progress → List Float → Left Pace

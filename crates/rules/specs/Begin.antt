@@ -55,6 +55,7 @@ spanOf s x0 xend rtolMin =
       hmin = absOf (orGiven (s .«min_step») +0);
       «newton_tol» = newtonTol (s .«newton_tol») rtolMin;
       «first_step» = s .«first_step»;
+      guarded = s .guarded;
     }
 
 -- a state with nothing done: the counters 0, order 1
@@ -85,7 +86,7 @@ kept s n x0 xend r rs =
 abbrev pub nothing : Progress
 nothing =
     fresh 0 (record { steps = 1; newton = 1 })
-    (record { xend = +0; direction = +0; hmax = +0; hmin = +0; «newton_tol» = +0; «first_step» = Unset }) +0
+    (record { xend = +0; direction = +0; hmax = +0; hmin = +0; «newton_tol» = +0; «first_step» = Unset; guarded = false }) +0
 
 -- ---- the workspace at the beginning: zeros, then y, rtol and atol
 

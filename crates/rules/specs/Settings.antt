@@ -1,4 +1,5 @@
--- The settings of a solver that is told nothing, as the Rust has them.
+-- The settings of a solver that is told nothing, as the Rust has them, and unguarded, as the Rust is.
+use mathlib.Core.Bool.{false}
 use Rattle.rules.specs.Types.{Unset}
 use Rattle.rules.specs.declared.settings.BDF.{BDF}
 
@@ -11,4 +12,5 @@ defaults =
       «newton_maxiter» = 4;
       «newton_tol» = Unset;
       «first_step» = Unset;
+      guarded = false;
     }

@@ -1,7 +1,7 @@
 -- What follows a Newton derivative's reply: another iteration, a new Jacobian where Newton gave up, a rejected step, or an
 -- accepted one and its notice.
 use mathlib.Core.List.{List}
-use mathlib.Core.Bool.{Bool}
+use mathlib.Core.Bool.{Bool, _&&_, _||_}
 use Prim.Native.Nat.{ℕ, _+_, _*_}
 use lib.Ieee as Ieee
 use lib.Ieee.{Float}
@@ -11,7 +11,7 @@ use Rattle.number.specs.Helpers.{maxOf}
 use Rattle.roots.specs.Roots.{inverseRoot}
 use Rattle.rules.specs.Types.{Progress, Pace, Newton, Derivative, Jacobian, Step, NewtonDerivative, FailedJacobian, StepNotice}
 use Rattle.loops.specs.Arithmetic.{_⊖_, _⊗_, one}
-use Rattle.rules.specs.Literals.{minFactor}
+use Rattle.rules.specs.Literals.{minFactor, half}
 use Rattle.rules.specs.Tables.{errorConsts}
 use Rattle.rules.specs.Places.{delta, y, yNew, yPredict, cont, row}
 use Rattle.rules.specs.Moves.{loaded}
@@ -24,10 +24,18 @@ use Rattle.rules.specs.Attempt.{rescaledD, told, Tried, rejected, says}
 
 -- ---- the judgement of a step
 
--- a rejection for its error: at least MIN_FACTOR of the step stays, and the factoring is kept
+-- `error_norm > 1.0`; in a guarded run a norm that is NaN fails too (02 §8)
+unfoldable pub errorFails : Bool → Float → Bool
+errorFails guarded norm = Ieee.lt one norm || (guarded && Ieee.isNan norm)
+
+-- what a rejection for its error leaves of the step: safety times root, at least MIN_FACTOR; half of it where the norm is NaN
+unfoldable pub errorFactor : ℕ → Float → Float → Float
+errorFactor order safety norm = if Ieee.isNan norm then half else maxOf (safety ⊗ inverseRoot (order + 1) norm) minFactor
+
+-- a rejection for its error: the factoring is kept
 unfoldable pub errorRejected : Progress → Float → Float → List Float → Left Tried
 errorRejected p safety norm ws =
-    let factor = maxOf (safety ⊗ inverseRoot (p .order + 1) norm) minFactor in
+    let factor = errorFactor (p .order) safety norm in
     let pace : Pace = record { h = p .pace .h ⊗ factor; «equal_steps» = 0; «lu_is_current» = p .pace .«lu_is_current» } in
     left (rejected (rejected+1 (withPace p pace))) (rescaledD (p .n) (p .order) factor ws)
 
@@ -68,7 +76,7 @@ judged p ws q =
     let norm = rhsNorm (p .n) w in
     let safety = safetyOf (p .limits .newton) (p .newton .iters) in
     let e = errorRejected p safety norm w in
-    if Ieee.lt one norm then after (e .is) (e .ws) q else stepAccepted p safety norm w q
+    if errorFails (p .span .guarded) norm then after (e .is) (e .ws) q else stepAccepted p safety norm w q
 
 -- ---- the iteration
 

@@ -33,6 +33,10 @@ pub mod QuestionLaws
 pub mod SpeakLaws
 pub mod Agree
 pub mod AgreeLaws
+-- ---- that no stage sees what it does not read; guarded and unguarded calls beside each other
+pub mod BlindLaws
+pub mod GuardLaws
+pub mod NanLaws
 -- ---- the counters over whole exchanges, place by place; a state that is not damaged
 pub mod HistoryLaws
 pub mod Standing

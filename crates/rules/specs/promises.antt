@@ -8,6 +8,8 @@ pub mod NeverDamaged
 pub mod RunEnds
 pub mod Workspace
 pub mod Beyond
+-- ---- of the guard: a NaN error is no pass, and what it leaves alone
+pub mod Guarded
 -- ---- of refusals: nothing is changed, and the numbers are those of the table
 pub mod RefusalLaws
 pub mod RefusalTable
@@ -23,3 +25,4 @@ pub mod AnySolver
 pub mod Printed
 pub mod Impostors
 pub mod Witnesses
+pub mod NanStep

@@ -1,4 +1,4 @@
-// The solver's settings, with the Rust's names and defaults.
+// The solver's settings, with the Rust's names and defaults; and `guarded`, which the Rust has not.
 use crate::types::Setting;
 ghost use mathlib.Core.Path.{_≡_};
 ghost use Rattle.rules.specs.Settings.{defaults};
@@ -10,6 +10,8 @@ pub struct BDF {
     pub newton_maxiter: usize,
     pub newton_tol: Setting,
     pub first_step: Setting,
+    // Not the Rust's (02 §8): an error norm that is NaN rejects its attempt, where the Rust lets it pass.
+    pub guarded: bool,
 }
 
 impl BDF {
@@ -23,6 +25,7 @@ impl BDF {
             newton_maxiter: 4,
             newton_tol: Setting::Unset,
             first_step: Setting::Unset,
+            guarded: false,
         }
     }
 }

@@ -136,6 +136,7 @@ pub struct Span {
     pub hmin: f64,
     pub newton_tol: f64,
     pub first_step: Setting,
+    pub guarded: bool,
 }
 
 // As in the Rust, and beside it `start`: 1 once the automatic start has asked its derivative, which `ode` does not count.

@@ -20,8 +20,8 @@ use Rattle.rules.specs.Norm.{squareOf, squareTurn, sumOfSquares, rhsNorm}
 use Rattle.rules.specs.Factor.{matrixTurn, matrixCells, diagonal, matrixRow, matrix, factored}
 use Rattle.rules.specs.Newton.{residualTurn, residual, solved, correction, advanceTurn, advanced, converged}
 use Rattle.rules.specs.Judge.{safetyOf, weighTurn, weighed, newestTurn, newest, addNextTurn, addNext, summedTurn, summed, coeff, coeffTurn, coeffs, contTurn, prepared, acceptedWs}
-use Rattle.rules.specs.Attempt.{toHmax, toHmin, aimed, newtonStart, mustFactor, refactored, predictedAll, attemptAt, guarded, fitted, fittedAttempt, attempt, tries, mainLoop}
-use Rattle.rules.specs.Step.{stepAccepted, errorWs, judged, iterated, newtonReplied}
+use Rattle.rules.specs.Attempt.{toHmax, toHmin, aimed, newtonStart, mustFactor, refactored, predictedAll, attemptAt, unlessStuck, fitted, fittedAttempt, attempt, tries, mainLoop}
+use Rattle.rules.specs.Step.{errorFails, stepAccepted, errorWs, judged, iterated, newtonReplied}
 use Rattle.rules.specs.Reply.{jacobianStored, firstTurn, firstDifference, differences, started, firstStep, stepped, newtonTurn, firstDerivative, firstJacobian}
 use Rattle.rules.specs.Checks.{negative, limited, tolerancesChecked, checked}
 use Rattle.rules.specs.Begin.{spanOf, kept, beginWs, askFirst, beginRun, beginOf}
@@ -78,5 +78,5 @@ pub record Computed : Type 0 where
       bytes "I 0000000000000000 3FF0000000000000\nS 3FE0000000000000 3FF0000000000000\nE 2 3FE0000000000000 1 1 0 2 1 1 0\n"
 
 pub computed : Computed
-unfolding if_then_else_ turns loop absOf signumOf minOf maxOf sqrtOf sizedOf singleOf luDecompOf insideOf dividedOf solvedOf linSolveOf gammas alphas errorConsts copyTurn copied fillTurn filled loadTurn loaded predictedTurn predicted predictTurn predict scaleOf scaleTurn scaled psiSumTurn psiSum psiTurn psied squareOf squareTurn sumOfSquares rhsNorm matrixTurn matrixCells diagonal matrixRow matrix factored residualTurn residual solved correction advanceTurn advanced converged safetyOf weighTurn weighed newestTurn newest addNextTurn addNext summedTurn summed coeff coeffTurn coeffs contTurn prepared acceptedWs toHmax toHmin aimed newtonStart mustFactor refactored predictedAll attemptAt guarded fitted fittedAttempt attempt tries mainLoop stepAccepted errorWs judged iterated newtonReplied jacobianStored firstTurn firstDifference differences started firstStep stepped newtonTurn firstDerivative firstJacobian negative limited tolerancesChecked checked spanOf kept beginWs askFirst beginRun beginOf pivotOutside limitsDamaged stepsDamaged countersDamaged damagedAbove0 damaged goChecked goWithin goOn ofBits ofInt add sub mul div neg eq lt le ne kappa toBits digit spelled placesWithin wordFrom spaced line hexes headBits doublesOf acceptedOf firstStepOf jobOf acceptedRead headRead readOf sumTurn rowSum rightTurn rightOf replied linesFrom printed
+unfolding if_then_else_ turns loop absOf signumOf minOf maxOf sqrtOf sizedOf singleOf luDecompOf insideOf dividedOf solvedOf linSolveOf gammas alphas errorConsts copyTurn copied fillTurn filled loadTurn loaded predictedTurn predicted predictTurn predict scaleOf scaleTurn scaled psiSumTurn psiSum psiTurn psied squareOf squareTurn sumOfSquares rhsNorm matrixTurn matrixCells diagonal matrixRow matrix factored residualTurn residual solved correction advanceTurn advanced converged safetyOf weighTurn weighed newestTurn newest addNextTurn addNext summedTurn summed coeff coeffTurn coeffs contTurn prepared acceptedWs toHmax toHmin aimed newtonStart mustFactor refactored predictedAll attemptAt unlessStuck fitted fittedAttempt attempt tries mainLoop stepAccepted errorFails errorWs judged iterated newtonReplied jacobianStored firstTurn firstDifference differences started firstStep stepped newtonTurn firstDerivative firstJacobian negative limited tolerancesChecked checked spanOf kept beginWs askFirst beginRun beginOf pivotOutside limitsDamaged stepsDamaged countersDamaged damagedAbove0 damaged goChecked goWithin goOn ofBits ofInt add sub mul div neg eq lt le ne kappa toBits digit spelled placesWithin wordFrom spaced line hexes headBits doublesOf acceptedOf firstStepOf jobOf acceptedRead headRead readOf sumTurn rowSum rightTurn rightOf replied linesFrom printed
 computed = record { whole = refl; one-step = refl }

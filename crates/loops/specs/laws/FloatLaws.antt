@@ -1,6 +1,6 @@
 -- What holds of single operations on floats, wherever a definition uses them.
 use mathlib.Core.Path.{_≡_, refl, sym, _∙_, subst}
-use mathlib.Core.Bool.{true, false, not, true≢false}
+use mathlib.Core.Bool.{Bool, true, false, not, true≢false}
 use Prim.Native.Nat.{_*_}
 use borrow.Author.Tests.{eq-eqb}
 use lib.Dec.{T}
@@ -17,6 +17,9 @@ differs-is-nan (fin true m e) = rw (eq-eqb (m * up e * down e) (m * up e * down 
 differs-is-nan (fin false m e) = rw (eq-eqb (m * up e * down e) (m * up e * down e) refl)
 
 -- what `x != x` tells
+pub nan-by : (x : Float) {b : Bool} → ne x x ≡ b → isNan x ≡ b
+nan-by x t = sym (differs-is-nan x) ∙ t
+
 pub is-nan : (x : Float) → ne x x ≡ true → x ≡ nan
 is-nan x e = differs-from-itself x (subst T (sym e) tt)
 

@@ -14,7 +14,7 @@ use Rattle.rules.specs.Types.{Progress, Pace, Success, NeedLargerNMax, S
 use Rattle.rules.specs.State.{withPace, changed, After, after, Left, left}
 use Rattle.rules.specs.laws.Moved.{Moved}
 use Rattle.rules.specs.laws.MovedLaws.{moved-on, factoring-spared, stays, pace-moves, aim-moves, newton-moves, total-moves, rejected-moves, factored-moves, singular-moves}
-use Rattle.rules.specs.Attempt.{toHmax, toHmin, fitted, aimed, cutAtEnd, halved, newtonStart, refactored, attemptAt, guarded, headed, fittedAttempt, attempt, Tried, says, end}
+use Rattle.rules.specs.Attempt.{toHmax, toHmin, fitted, aimed, cutAtEnd, halved, newtonStart, refactored, attemptAt, unlessStuck, headed, fittedAttempt, attempt, Tried, says, end}
 use Rattle.rules.specs.laws.Said.{Cause, ends, asks, Tries}
 use Rattle.rules.specs.declared.stages.Aimed.{Aimed}
 use Rattle.rules.specs.declared.stages.Aimed.the-variants.{At, AtEnd}
@@ -61,16 +61,16 @@ module _ (p : Progress) (had : p .steps .total < p .limits .steps) where
   attempt-at-tries {r} ws q m =
       either (λ (a : After Tried). Tries p (a .is)) _ (λ _. refactored-tries _ _ m) (λ _. newton-start-asks _ _ (factoring-spared m))
 
-  guarded-tries : {r : Progress} (ws q : List Float) → Moved p r 0 0 0 0 0 0 (p .order) → Tries p (guarded r ws q .is)
-  unfolding guarded
-  guarded-tries {r} ws q m =
+  unless-stuck-tries : {r : Progress} (ws q : List Float) → Moved p r 0 0 0 0 0 0 (p .order) → Tries p (unlessStuck r ws q .is)
+  unfolding unlessStuck
+  unless-stuck-tries {r} ws q m =
       either (λ (a : After Tried). Tries p (a .is)) _
       (λ e. (ends {k = 0} StepSizeTooSmall refl (inr e) (omega arith) m))
       (λ _. attempt-at-tries _ _ (moved-on m (total-moves r)))
 
   headed-tries : {r : Progress} (a : Aimed) (ws q : List Float) → Moved p r 0 0 0 0 0 0 (p .order) → AimTells r a → Tries p (headed r a ws q .is)
   headed-tries AtEnd ws q m e = (ends {k = 0} Success refl e (omega arith) m)
-  headed-tries {r} (At g a) ws q m e = guarded-tries ws q (moved-on (moved-on m (pace-moves r e)) (aim-moves (withPace r g) a))
+  headed-tries {r} (At g a) ws q m e = unless-stuck-tries ws q (moved-on (moved-on m (pace-moves r e)) (aim-moves (withPace r g) a))
 
   fitted-attempt-tries : (ws q : List Float) → Tries p (fittedAttempt p ws q .is)
   unfolding fittedAttempt

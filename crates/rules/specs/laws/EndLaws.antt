@@ -16,7 +16,7 @@ use Rattle.rules.specs.Types.{Progress, Turn, Awaited, Reply, Setting, U
 use Rattle.rules.specs.State.{withPace, After, after, Left}
 use Rattle.rules.specs.Places.{need, row, y, yNew, yPredict, delta, f0, vector}
 use Rattle.rules.specs.Moves.{loaded}
-use Rattle.rules.specs.Attempt.{Tried, rejected, says, onward, attempt, predictedAll, fitted, fittedAttempt, aimed, cutAtEnd, headed, guarded, halved, attemptAt, refactored, newtonStart, end, tries, attemptsLeft, mainLoop}
+use Rattle.rules.specs.Attempt.{Tried, rejected, says, onward, attempt, predictedAll, fitted, fittedAttempt, aimed, cutAtEnd, headed, unlessStuck, halved, attemptAt, refactored, newtonStart, end, tries, attemptsLeft, mainLoop}
 use Rattle.rules.specs.Step.{errorRejected, judged, stepAccepted, newtonFailed, newtonAgain, iterated, newtonReplied}
 use Rattle.rules.specs.Reply.{jacobianStored, started, hinitAsks, firstStep, hinitReplied, modified, restarted, chosen, ordered, stepped, newtonTurn, failedTurn, firstDerivative, firstJacobian, restartJacobian, stepJacobian, orderJacobian, startNoticed, stepNoticed, replied}
 use Rattle.rules.specs.Replies.{isEnded, valuesWant, wordWants, wants}
@@ -75,10 +75,10 @@ module _ (i : Type 0) (x : Float) (v : List Float) where
       either Comes _ (λ _. refactored-comes p _ q predicts) (λ _. newton-start-comes p _ q predicts)
 
   -- the step that the end tells is the step that the guard tested
-  guarded-comes :
-      (p : Progress) (ws q : List Float) → p .aim .«h_signed» ≡ p .span .direction ⊗ p .pace .h → Holds x v p ws → Comes (guarded p ws q)
-  unfolding guarded
-  guarded-comes p ws q aims h =
+  unless-stuck-comes :
+      (p : Progress) (ws q : List Float) → p .aim .«h_signed» ≡ p .span .direction ⊗ p .pace .h → Holds x v p ws → Comes (unlessStuck p ws q)
+  unfolding unlessStuck
+  unless-stuck-comes p ws q aims h =
       either Comes _
       (λ e. record { because = (refl, inr (rw aims at e)); holds = h })
       (λ _. attempt-at-comes _ ws q h)
@@ -97,7 +97,7 @@ module _ (i : Type 0) (x : Float) (v : List Float) where
 
   headed-comes : (p : Progress) (a : Aimed) (ws q : List Float) → AimTells p a → Holds x v p ws → Comes (headed p a ws q)
   headed-comes p AtEnd ws q t h = record { because = (refl, t); holds = h }
-  headed-comes p (At g a) ws q t h = guarded-comes _ ws q t h
+  headed-comes p (At g a) ws q t h = unless-stuck-comes _ ws q t h
 
   attempt-comes : (p : Progress) (ws q : List Float) → Holds x v p ws → Comes (attempt p ws q)
   unfolding attempt fittedAttempt

@@ -15,7 +15,7 @@ use Rattle.rules.specs.Types.{FirstDerivative, FirstJacobian, StartDeriv
 use Rattle.rules.specs.Places.{need, y, y1, yNew, yPredict}
 use Rattle.rules.specs.State.{After, after}
 use Rattle.rules.specs.Replies.{valuesWant, wants}
-use Rattle.rules.specs.Attempt.{attempt, fittedAttempt, aimed, headed, guarded, halved, attemptAt, refactored, newtonStart, Tried, rejected, says, onward, tries, mainLoop}
+use Rattle.rules.specs.Attempt.{attempt, fittedAttempt, aimed, headed, unlessStuck, halved, attemptAt, refactored, newtonStart, Tried, rejected, says, onward, tries, mainLoop}
 use Rattle.rules.specs.Moves.{loaded}
 use Rattle.rules.specs.Step.{errorRejected, judged, stepAccepted, newtonFailed, newtonAgain, iterated, newtonReplied}
 use Rattle.rules.specs.Reply.{jacobianStored, started, hinitAsks, firstStep, hinitReplied, modified, restarted, chosen, ordered, stepped, newtonTurn, failedTurn, firstDerivative, firstJacobian, restartJacobian, stepJacobian, orderJacobian, startNoticed, stepNoticed, replied}
@@ -59,14 +59,14 @@ attempt-at-speaks p ws h =
     let w = predicted-keeps (exact p) (p .order) ws h in
     speaks-either _ (λ _. refactored-speaks p _ w) (λ _. newton-start-speaks p _ w)
 
-guarded-speaks : (p : Progress) (ws : List Float) → Exact p ws → Attempts p (guarded p ws)
-unfolding guarded
-guarded-speaks p ws h =
+unless-stuck-speaks : (p : Progress) (ws : List Float) → Exact p ws → Attempts p (unlessStuck p ws)
+unfolding unlessStuck
+unless-stuck-speaks p ws h =
     speaks-either _ (λ _. speaks-nothing _ ws h (refl, refl, refl, refl)) (λ _. attempt-at-speaks _ ws h)
 
 headed-speaks : (p : Progress) (a : Aimed) (ws : List Float) → Exact p ws → Attempts p (headed p a ws)
 headed-speaks p AtEnd ws h = speaks-nothing _ ws h (refl, refl, refl, refl)
-headed-speaks p (At g a) ws h = guarded-speaks _ ws h
+headed-speaks p (At g a) ws h = unless-stuck-speaks _ ws h
 
 attempt-speaks : (p : Progress) (ws : List Float) → Exact p ws → Attempts p (attempt p ws)
 unfolding attempt fittedAttempt

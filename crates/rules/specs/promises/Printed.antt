@@ -2,14 +2,14 @@
 -- 1e-6, y0 = 1, A = 0. The caller answers every derivative and Jacobian with 0 and continues at every notice; the notices and the
 -- end that the definitions then compute are what 01 prints, with 02 §6's `start` besides. Beside it the same with one step allowed, whose
 -- last line 01 prints too; and, not printed there, with y' = 1 in place of y' = 0, where y moves, and with an automatic start as far as
--- its notice.
+-- its notice. The job is unguarded, as 01's are, and meets no error norm that is NaN.
 use mathlib.Core.Path.{_≡_, refl}
 use mathlib.Core.Bool.{false}
 use mathlib.Core.List.{List, [], _∷_}
 use Prim.Native.Nat.{ℕ}
 use lib.IntN.{pos, negsuc}
 use lib.ListN.{replicate}
-use lib.Ieee.{Float, nan, fin, ofBits, ofInt, add, sub, mul, div, neg, eq, ne, lt, le}
+use lib.Ieee.{Float, nan, fin, isNan, ofBits, ofInt, add, sub, mul, div, neg, eq, ne, lt, le}
 use Rattle.loops.specs.Choice.{if_then_else_}
 use Rattle.loops.specs.Loop.{turns, loop}
 use Rattle.number.specs.Helpers.{absOf, signumOf, minOf, maxOf}
@@ -25,16 +25,18 @@ use Rattle.rules.specs.Norm.{squareOf, squareTurn, sumOfSquares, rhsNorm
 use Rattle.rules.specs.Factor.{matrixTurn, matrixCells, diagonal, matrixRow, matrix, factored}
 use Rattle.rules.specs.Newton.{residualTurn, residual, solved, correction, advanceTurn, advanced, converged}
 use Rattle.rules.specs.Judge.{safetyOf, weighTurn, weighed, newestTurn, newest, addNextTurn, addNext, summedTurn, summed, coeff, coeffTurn, coeffs, contTurn, prepared, acceptedWs}
-use Rattle.rules.specs.Attempt.{toHmax, toHmin, aimed, newtonStart, mustFactor, refactored, predictedAll, attemptAt, guarded, fitted, fittedAttempt, attempt, tries, mainLoop}
-use Rattle.rules.specs.Step.{stepAccepted, errorWs, judged, iterated, newtonReplied}
+use Rattle.rules.specs.Attempt.{toHmax, toHmin, aimed, newtonStart, mustFactor, refactored, predictedAll, attemptAt, unlessStuck, fitted, fittedAttempt, attempt, tries, mainLoop}
+use Rattle.rules.specs.Step.{errorFails, stepAccepted, errorWs, judged, iterated, newtonReplied}
 use Rattle.rules.specs.Starting.{squaresTurn, squares, rawGuess, firstGuess, guess, eulerTurn, euler, secondTurn, second, h1, finalGuess, hinit, withinSpan}
 use Rattle.rules.specs.Reply.{jacobianStored, firstTurn, firstDifference, differences, started, hinitAsks, firstStep, hinitReplied, stepped, newtonTurn, firstDerivative, firstJacobian}
 use Rattle.rules.specs.Checks.{negative, limited, tolerancesChecked, checked}
 use Rattle.rules.specs.Begin.{spanOf, kept, beginWs, askFirst, beginRun, beginOf}
 use Rattle.rules.specs.GoOn.{pivotOutside, limitsDamaged, stepsDamaged, countersDamaged, damagedAbove0, damaged, goChecked, goWithin, goOn}
-use Rattle.rules.specs.Types.{Setting, Unset, Given, Scalar, Answer, Derivative, Jacobian, Start, Step, End, Success, NeedLargerNMax, Values, Continue}
-use Rattle.rules.specs.Calls.{Configuration}
-use Rattle.rules.specs.promises.Solver.{Solver, Replied, Line, ours, later, transcript}
+use Rattle.rules.specs.Types.{Setting, Unset, Given, Scalar, Answer, Turn, Derivative, Jacobian, Start, Step, End, Success, NeedLargerNMax, Values, Continue}
+use Rattle.rules.specs.State.{After}
+use Rattle.rules.specs.Calls.{Configuration, beginning}
+use Rattle.rules.specs.Guarding.{meetsNan}
+use Rattle.rules.specs.promises.Solver.{Solver, Replied, Line, ours, next, later, transcript}
 
 -- 0, 1/2 and 1
 abbrev pub nought : Float
@@ -64,6 +66,7 @@ jobWith steps first =
             «newton_maxiter» = 4;
             «newton_tol» = Unset;
             «first_step» = first;
+            guarded = false;
           };
       x0 = nought;
       y0 = one ∷ [];
@@ -159,14 +162,29 @@ automatic-lines =
     says (Derivative micro) one 1 1 0 1 0 0 0 ∷
     says (Start nought) one 1 1 0 1 0 0 0 ∷ []
 
--- ---- the definitions compute all four
+-- ---- none of the printed job's replies brings an attempt to its judgement whose error norm is NaN
+
+abbrev pub NoNan : After Turn → List Replied → Type 0
+NoNan g [] = Unit
+NoNan g (r ∷ replies) =
+    (meetsNan (g .is .run) (record { reply = r .0; values = r .1; ws = g .ws; q = g .q }) ≡ false) × NoNan (next ours g r) replies
+
+-- ---- the definitions compute all of it
 
 pub record Computed : Type 0 where
   pub printed : transcriptOfJob ours 100000 (replies nought) ≡ lines
   pub one-step : transcriptOfJob ours 1 fewer ≡ fewer-lines
   pub rising : transcriptOfJob ours 100000 (replies one) ≡ rising-lines
   pub automatic : transcriptOf ours automaticJob started-by-itself ≡ automatic-lines
+  pub no-nan : NoNan (beginning (job 100000) (replicate 35 nan) (replicate 8 nan)) (replies nought)
 
 pub computed : Computed
-unfolding later if_then_else_ turns loop absOf signumOf minOf maxOf sqrtOf sizedOf singleOf luDecompOf insideOf dividedOf solvedOf linSolveOf gammas alphas errorConsts copyTurn copied fillTurn filled loadTurn loaded predictedTurn predicted predictTurn predict scaleOf scaleTurn scaled psiSumTurn psiSum psiTurn psied squareOf squareTurn sumOfSquares rhsNorm matrixTurn matrixCells diagonal matrixRow matrix factored residualTurn residual solved correction advanceTurn advanced converged safetyOf weighTurn weighed newestTurn newest addNextTurn addNext summedTurn summed coeff coeffTurn coeffs contTurn prepared acceptedWs toHmax toHmin aimed newtonStart mustFactor refactored predictedAll attemptAt guarded fitted fittedAttempt attempt tries mainLoop stepAccepted errorWs judged iterated newtonReplied jacobianStored firstTurn firstDifference differences squaresTurn squares rawGuess firstGuess guess eulerTurn euler secondTurn second h1 finalGuess hinit withinSpan started hinitAsks firstStep hinitReplied stepped newtonTurn firstDerivative firstJacobian negative limited tolerancesChecked checked spanOf kept beginWs askFirst beginRun beginOf pivotOutside limitsDamaged stepsDamaged countersDamaged damagedAbove0 damaged goChecked goWithin goOn ofBits ofInt add sub mul div neg eq lt le ne kappa
-computed = record { printed = refl; one-step = refl; rising = refl; automatic = refl }
+unfolding later if_then_else_ turns loop absOf signumOf minOf maxOf sqrtOf sizedOf singleOf luDecompOf insideOf dividedOf solvedOf linSolveOf gammas alphas errorConsts copyTurn copied fillTurn filled loadTurn loaded predictedTurn predicted predictTurn predict scaleOf scaleTurn scaled psiSumTurn psiSum psiTurn psied squareOf squareTurn sumOfSquares rhsNorm matrixTurn matrixCells diagonal matrixRow matrix factored residualTurn residual solved correction advanceTurn advanced converged safetyOf weighTurn weighed newestTurn newest addNextTurn addNext summedTurn summed coeff coeffTurn coeffs contTurn prepared acceptedWs toHmax toHmin aimed newtonStart mustFactor refactored predictedAll attemptAt unlessStuck fitted fittedAttempt attempt tries mainLoop stepAccepted errorFails errorWs judged iterated newtonReplied jacobianStored firstTurn firstDifference differences squaresTurn squares rawGuess firstGuess guess eulerTurn euler secondTurn second h1 finalGuess hinit withinSpan started hinitAsks firstStep hinitReplied stepped newtonTurn firstDerivative firstJacobian negative limited tolerancesChecked checked spanOf kept beginWs askFirst beginRun beginOf pivotOutside limitsDamaged stepsDamaged countersDamaged damagedAbove0 damaged goChecked goWithin goOn meetsNan isNan ofBits ofInt add sub mul div neg eq lt le ne kappa
+computed =
+    record {
+      printed = refl;
+      one-step = refl;
+      rising = refl;
+      automatic = refl;
+      no-nan = (refl, (refl, (refl, (refl, (refl, (refl, (refl, tt)))))));
+    }

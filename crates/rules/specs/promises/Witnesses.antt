@@ -1,8 +1,9 @@
 -- That nothing is promised of what cannot be: the job that 01 prints is an exchange with every solver that meets the contracts, with
--- demand 3's counters at its end; two callers of it whose slices differ are twins from the beginning to that end; and a solver that
--- invents its counters can be had, so that to rule it out says something.
+-- demand 3's counters at its end; two callers of it whose slices differ are twins from the beginning to that end, and so are abreast a
+-- guarded and an unguarded one; and a solver that invents its counters can be had, so that to rule it out says something.
 use mathlib.Core.Path.{_≡_, refl, sym, ap, _∙_, subst}
 use mathlib.Core.List.{List, [], _∷_}
+use mathlib.Core.Bool.{true}
 use Prim.Native.Nat.{ℕ, _*_, _≤_}
 use native.Mathlib.Omega.{arith}
 use lib.Dec.{ltb}
@@ -18,9 +19,11 @@ use Rattle.rules.specs.History.{Exchange}
 use Rattle.rules.specs.laws.Agree.{Alike}
 use Rattle.rules.specs.promises.Demand3.{Counted}
 use Rattle.rules.specs.promises.Workspace.{Twins, begin, go-on, workspace-changes-no-answer}
+use Rattle.rules.specs.Guarding.{guardedAs}
+use Rattle.rules.specs.promises.Guarded.{Abreast, begins, goes-on, abreast-agrees, same-until-a-nan}
 use Rattle.rules.specs.promises.Solver.{Solver, Meets, ours, Line, line, Replied, next, transcript-same}
 use Rattle.rules.specs.promises.AnySolver.{ExchangeWith, has-begun, exchange-is-ours, every-solver-counts, lastOf, answersOf, AllTaken, transcript-is-exchanged, lastLine, last-is-told}
-use Rattle.rules.specs.promises.Printed.{nought, half, one, job, transcriptOfJob, replies, lines, computed}
+use Rattle.rules.specs.promises.Printed.{nought, half, one, job, transcriptOfJob, replies, lines, NoNan, computed}
 use Rattle.rules.specs.promises.Impostors.{Miscounts, no-miscounter}
 
 pub ours-meets : Meets ours
@@ -109,6 +112,41 @@ printed-twins =
       twins = t;
       first-ends = ends;
       second-ends = sym (ap (λ (u : Turn). u .answer) (workspace-changes-no-answer (job 100000) t .turns)) ∙ ends;
+    }
+
+-- ---- two callers of it, the second guarded
+
+-- whatever is replied, they stay abreast as long as no norm is NaN
+pub abreast-stay :
+    {c : Configuration} {g h : After Turn} → Abreast c g h → (replies : List Replied) → NoNan g replies →
+    Abreast c (lastOf ours g replies) (secondOf g h replies)
+abreast-stay b [] none = b
+abreast-stay {c} {g} {h} b (r ∷ replies) none =
+    let a = abreast-agrees c b in
+    let ones = replicate (length (g .q)) one in
+    let room′ = subst (λ (u : Turn). need (u .run .at .n) ≤ length (h .ws)) (a .turns) (a .room′) in
+    let alike : Alike (size g) (g .q) ones = ap (λ (k : ℕ). ltb k (8 * size g)) (sym (length-replicate (length (g .q)) one)) in
+    abreast-stay (goes-on (r .0) (r .1) (g .ws) (h .ws) (g .q) ones b (a .room, refl) (room′, refl) alike (none .0)) replies (none .1)
+
+abbrev pub guardedBegun : After Turn
+guardedBegun = beginning (guardedAs true (job 100000)) (replicate 40 one) (replicate 8 one)
+
+-- abreast at the job's end, and both are told the same end
+pub record PrintedAbreast : Type 0 where
+  pub abreast : Abreast (job 100000) (lastOf ours firstBegun (replies nought)) (secondOf firstBegun guardedBegun (replies nought))
+  pub first-ends : lastOf ours firstBegun (replies nought) .is .answer ≡ End Success half
+  pub guarded-ends : secondOf firstBegun guardedBegun (replies nought) .is .answer ≡ End Success half
+
+pub printed-abreast : PrintedAbreast
+printed-abreast =
+    let begun : Abreast (job 100000) firstBegun guardedBegun =
+    begins (replicate 35 nan) (replicate 40 one) (replicate 8 nan) (replicate 8 one) (omega arith) (omega arith) refl in
+    let b = abreast-stay begun (replies nought) (computed .no-nan) in
+    let ends = printed-twins .first-ends in
+    record {
+      abreast = b;
+      first-ends = ends;
+      guarded-ends = sym (same-until-a-nan (job 100000) b .answers) ∙ ends;
     }
 
 -- ---- an inventor

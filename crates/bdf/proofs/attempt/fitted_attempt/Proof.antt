@@ -12,7 +12,7 @@ returns c =
 returns-2 : tie.Need-returns-2
 unfolding fittedAttempt
 returns-2 c =
-    rw (← c .before .before .before .before .before .before .before .before .before .before .before .before .before .before .before .before .before .before .before .fit .ensures (c .before .before .before .before .before .before .before .before .before .before .before .before .before .before .before .before .before .before .before .before .before .before .before .before .args .pivot .now), ← c .before .before .before .before .before .before .before .before .before .before .before .before .before .before .before .aim .ensures (c .before .before .before .before .before .before .before .before .before .before .before .before .before .before .before .before .before .before .before .before .before .before .before .before .args .pivot .now), c .before .before .before .before .before .before .before .before .before .before .before .a .given .1) (c .before .before .before .before .before .before .guard .ensures)
+    rw (← c .before .before .before .before .before .before .before .before .before .before .before .before .before .before .before .before .before .before .before .fit .ensures (c .before .before .before .before .before .before .before .before .before .before .before .before .before .before .before .before .before .before .before .before .before .before .before .before .args .pivot .now), ← c .before .before .before .before .before .before .before .before .before .before .before .before .before .before .before .aim .ensures (c .before .before .before .before .before .before .before .before .before .before .before .before .before .before .before .before .before .before .before .before .before .before .before .before .args .pivot .now), c .before .before .before .before .before .before .before .before .before .before .before .a .given .1) (c .before .before .before .before .before .before .unless-stuck .ensures)
 
 pub fitted-attempt-spec : {M : Type 1} → statement M
 fitted-attempt-spec =

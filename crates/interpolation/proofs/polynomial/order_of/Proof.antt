@@ -1,16 +1,9 @@
 -- `polynomial::order_of` goes by the same tests as its definition, and tells a NaN by its differing from itself. Assumes nothing.
-use mathlib.Core.Path.{_≡_, sym, _∙_}
-use mathlib.Core.Bool.{Bool}
-use lib.Ieee.{Float, isNan, ne}
 use Rattle.loops.specs.Choice.{if_then_else_}
-use Rattle.loops.specs.laws.FloatLaws.{differs-is-nan}
+use Rattle.loops.specs.laws.FloatLaws.{nan-by}
 use Rattle.interpolation.specs.Interpolate.{orderOf}
 use Rattle.interpolation.proofs.polynomial.order_of.Statement.{statement}
 use Rattle.interpolation.proofs.polynomial.order_of.Tie as tie
-
--- what the test of a mark against itself says of it
-nan-by : (mark : Float) {b : Bool} → ne mark mark ≡ b → isNan mark ≡ b
-nan-by mark t = sym (differs-is-nan mark) ∙ t
 
 returns : tie.Need-returns
 unfolding orderOf if_then_else_
