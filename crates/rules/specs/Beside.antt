@@ -51,8 +51,8 @@ triedBeside u (says t) = says (turnBeside u t)
 
 -- ---- and in what a stage or a call leaves: both slices are the same
 
-abbrev pub attemptBeside : Unread → After Tried → After Tried
+unfoldable pub attemptBeside : Unread → After Tried → After Tried
 attemptBeside u a = after (triedBeside u (a .is)) (a .ws) (a .q)
 
-abbrev pub callBeside : Unread → After Turn → After Turn
+unfoldable pub callBeside : Unread → After Turn → After Turn
 callBeside u g = after (turnBeside u (g .is)) (g .ws) (g .q)

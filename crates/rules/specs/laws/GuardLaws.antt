@@ -7,14 +7,14 @@ use mathlib.Core.Bool.{Bool, true, false, not, _&&_}
 use lib.ListN.{take, drop}
 use lib.Ieee.{Float, isNan}
 use Rattle.loops.specs.laws.ChoiceLaws.{through}
-use Rattle.rules.specs.Types.{Awaited, Reply, Progress, Run, Turn}
+use Rattle.rules.specs.Types.{Awaited, Reply, Answer, Progress, Run, Turn}
 use Rattle.rules.specs.Types.{FirstDerivative, FirstJacobian, StartDerivative, StartNotice, ModifiedStartDerivative, ModifiedStartJacobian, NewtonDerivative, FailedJacobian, StepNotice, ModifiedStepDerivative, ModifiedStepJacobian, OrderJacobian, Ended}
-use Rattle.rules.specs.State.{After, after}
+use Rattle.rules.specs.State.{turn, After, after}
 use Rattle.rules.specs.Places.{need}
 use Rattle.rules.specs.Answers.{isRefused}
 use Rattle.rules.specs.Replies.{awaitsNewton}
 use Rattle.rules.specs.Checks.{limited, tolerancesChecked, checked}
-use Rattle.rules.specs.Begin.{spanOf, kept, askFirst, beginRun, beginOf}
+use Rattle.rules.specs.Begin.{nothing, spanOf, kept, askFirst, beginRun, beginOf}
 use Rattle.rules.specs.GoOn.{limitsDamaged, stepsDamaged, countersDamaged, damagedAbove0, damaged, goChecked, goWithin, goOn}
 use Rattle.rules.specs.Calls.{Configuration, beginning, beginningChecked, beginningTurn, Call, goingOn, goingOnChecked, goingOnTurn, size, Untouched}
 use Rattle.rules.specs.History.{called}
@@ -34,16 +34,21 @@ module _ (b : Bool) (c : Configuration) where
   begin-turn-blind :
       (k : Check) (ws q : List Float) →
       beginningTurn (guardedAs false c) k ws q ≡ callBeside (guardSetTo false) (beginningTurn (guardedAs b c) k ws q)
-  unfolding beginRun askFirst kept spanOf
+  unfolding beginRun askFirst kept spanOf callBeside
   begin-turn-blind (Refuse why) ws q = refl
   begin-turn-blind Passed ws q = refl
+
+  -- a beginning that is refused, or that has nothing to do: its state has the guard off
+  nothing-blind : (a : Answer) (ws q : List Float) → after (turn a Ended nothing) ws q ≡ callBeside (guardSetTo false) (after (turn a Ended nothing) ws q)
+  unfolding callBeside
+  nothing-blind a ws q = refl
 
   pub begin-blind : (ws q : List Float) → beginning (guardedAs false c) ws q ≡ callBeside (guardSetTo false) (beginning (guardedAs b c) ws q)
   unfolding beginOf checked tolerancesChecked limited
   begin-blind ws q =
       through (callBeside (guardSetTo false)) refl
-      (λ _. refl)
-      (λ _. through (callBeside (guardSetTo false)) refl (λ _. refl) (λ _. begin-turn-blind (beginningChecked c ws q) ws q))
+      (λ _. nothing-blind _ ws q)
+      (λ _. through (callBeside (guardSetTo false)) refl (λ _. nothing-blind _ ws q) (λ _. begin-turn-blind (beginningChecked c ws q) ws q))
 
 -- ---- going on
 
@@ -83,7 +88,7 @@ module _ (u : Unread) (run : Run) (call : Call) where
   turn-blind :
       (k : Check) → (k ≡ Passed → Quiet (run .awaited) (run .at) (call .values) (take (need (run .at .n)) (call .ws))) →
       goingOnTurn (runBeside u run) call k ≡ callBeside u (goingOnTurn run call k)
-  unfolding goWithin
+  unfolding goWithin callBeside
   turn-blind (Refuse why) still = refl
   turn-blind Passed still =
       ap (λ (g : After Turn). after (g .is) (g .ws ++ drop (need (run .at .n)) (call .ws)) (g .q))
@@ -121,11 +126,12 @@ meets-within {run} {run′} e call call′ v t r =
 
 -- so of two callers that agree but for the guard both meet it in the same call, or neither does
 pub meets-together :
-    {g h : After Turn} (u : Unread) (r : Reply) (values ws ws′ q q′ : List Float) → Agree g (callBeside u h) → Untouched g ws → Untouched h ws′ →
+    {g : After Turn} (h : After Turn) (u : Unread) (r : Reply) (values ws ws′ q q′ : List Float) → Agree g (callBeside u h) → Untouched g ws → Untouched h ws′ →
     Alike (size g) q q′ →
     meetsNan (g .is .run) (record { reply = r; values = values; ws = ws; q = q }) ≡
     meetsNan (h .is .run) (record { reply = r; values = values; ws = ws′; q = q′ })
-meets-together {g} {h} u r values ws ws′ q q′ a kept kept′ alike =
+unfolding callBeside
+meets-together {g} h u r values ws ws′ q q′ a kept kept′ alike =
     let agrees = go-on-agrees {g = g} {h = callBeside u h} r values ws ws′ q q′ a kept kept′ alike in
     let same-run : g .is .run ≡ runBeside u (h .is .run) = ap (λ (t : Turn). t .run) (a .turns) in
     let back : Untouched (after (g .is) (h .ws) (h .q)) ws′ = rw (a .turns) kept′ in

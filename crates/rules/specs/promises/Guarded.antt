@@ -154,11 +154,12 @@ module _ (c : Configuration) where
 
   -- the strong form: the same answer, state but for the guard, needed places and question
   pub abreast-agrees : {g h : After Turn} → Abreast g h → Agree g (unguarded h)
+  unfolding callBeside
   abreast-agrees (begins ws ws′ q q′ long long′ alike) =
       subst (Agree (beginning (guardedAs false c) ws q)) (begin-blind true c ws′ q′) (begin-agrees (guardedAs false c) ws ws′ q q′ long long′ alike)
   abreast-agrees (goes-on {g} {h} r values ws ws′ q q′ before kept kept′ alike quiet) =
       let a = abreast-agrees before in
-      let none = sym (meets-together (guardSetTo false) r values ws ws′ q q′ a kept kept′ alike) ∙ quiet in
+      let none = sym (meets-together h (guardSetTo false) r values ws ws′ q q′ a kept kept′ alike) ∙ quiet in
       subst (Agree (goOn (g .is .run) r values ws q)) (go-on-blind (guardSetTo false) (h .is .run) _ none)
       (go-on-agrees {g = g} {h = unguarded h} r values ws ws′ q q′ a kept kept′ alike)
 
@@ -175,6 +176,7 @@ module _ (c : Configuration) where
     pub places : take (needed g) (g .ws) ≡ take (needed g) (h .ws)
 
   pub same-until-a-nan : {g h : After Turn} → Abreast g h → SameButForTheGuard g h
+  unfolding callBeside
   same-until-a-nan b =
       let a = abreast-agrees b in
       record {
@@ -191,5 +193,5 @@ module _ (c : Configuration) where
       {g h : After Turn} (r : Reply) (values ws ws′ q q′ : List Float) → Abreast g h → Untouched g ws → Untouched h ws′ → Alike (size g) q q′ →
       meetsNan (g .is .run) (record { reply = r; values = values; ws = ws; q = q }) ≡
       meetsNan (h .is .run) (record { reply = r; values = values; ws = ws′; q = q′ })
-  met-together r values ws ws′ q q′ b kept kept′ alike =
-      meets-together (guardSetTo false) r values ws ws′ q q′ (abreast-agrees b) kept kept′ alike
+  met-together {h = h} r values ws ws′ q q′ b kept kept′ alike =
+      meets-together h (guardSetTo false) r values ws ws′ q q′ (abreast-agrees b) kept kept′ alike

@@ -19,6 +19,7 @@ use Rattle.rules.specs.History.{Exchange}
 use Rattle.rules.specs.laws.Agree.{Alike}
 use Rattle.rules.specs.promises.Demand3.{Counted}
 use Rattle.rules.specs.promises.Workspace.{Twins, begin, go-on, workspace-changes-no-answer}
+use Rattle.rules.specs.Beside.{callBeside}
 use Rattle.rules.specs.Guarding.{guardedAs}
 use Rattle.rules.specs.promises.Guarded.{Abreast, begins, goes-on, abreast-agrees, same-until-a-nan}
 use Rattle.rules.specs.promises.Solver.{Solver, Meets, ours, Line, line, Replied, next, transcript-same}
@@ -120,6 +121,7 @@ printed-twins =
 pub abreast-stay :
     {c : Configuration} {g h : After Turn} → Abreast c g h → (replies : List Replied) → NoNan g replies →
     Abreast c (lastOf ours g replies) (secondOf g h replies)
+unfolding callBeside
 abreast-stay b [] none = b
 abreast-stay {c} {g} {h} b (r ∷ replies) none =
     let a = abreast-agrees c b in
