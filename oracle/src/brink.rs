@@ -6,7 +6,7 @@ use crate::random::Random;
 use crate::systems::System;
 use ivp::methods::Tolerance;
 
-/// A state close to the largest double or of a few least ones, one slope for some equal steps, by which the order rises, and from the
+/// A state close to the largest double, or a few times the least one, one slope for some equal steps, by which the order rises, and from the
 /// turn on others.
 pub fn brink(random: &mut Random) -> (Config, System, Manner) {
     let overflows = !random.once_in(4);

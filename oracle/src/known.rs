@@ -1,10 +1,10 @@
 //! Cases whose answers document 01, the transcript's paper, docs/DIFFERENCES.md and, for the inverse root of numbers below the normal
 //! ones, crates/roots/specs/promises/Overflow.antt print; and its hardest roundings. Those of each setting stand at the head of its
 //! part of the stored sample.
+use crate::GUARDED;
 use crate::config::Config;
 use crate::make::record;
 use crate::systems::System;
-use crate::GUARDED;
 use crate::ways::{nan_errors, ways};
 use crate::words::{word, words_of};
 use ivp::methods::Tolerance;

@@ -64,7 +64,7 @@ fn half(max_steps: u64) -> Config {
 }
 
 pub fn ways() -> Vec<Known> {
-    [ends(), factoring(), guards(), modified(), rounding(), newton_tolerances(), steps(), order()].into_iter().flatten().collect()
+    [ends(), factoring(), stagnation(), modified(), rounding(), newton_tolerances(), steps(), order()].into_iter().flatten().collect()
 }
 
 /// The last step is current_h * (left / h): one ulp short of 0.9, and one beyond 1.3.
@@ -111,8 +111,8 @@ fn factoring() -> Vec<Known> {
     ]
 }
 
-/// The guard adds 0.1 |h| whichever way the run goes, and the limit of steps is asked before the smallest step.
-fn guards() -> Vec<Known> {
+/// The test against stagnation adds 0.1 |h| whichever way the run goes, and the limit of steps is asked before the smallest step.
+fn stagnation() -> Vec<Known> {
     let ulps = |x0: f64| {
         let mut config = half(3);
         config.x0 = x0;

@@ -95,7 +95,6 @@ fn span(s: BDF, x0: f64, xend: f64, rtol_min: f64) -> Span
         hmin: number::abs(or_given(min_step, 0.0)),
         newton_tol: newton_tol(tol, rtol_min),
         first_step,
-        guarded: s.guarded,
     }
 }
 
@@ -147,6 +146,7 @@ fn nothing(answer: Answer) -> Turn
     let limits = Limits {
         steps: 1,
         newton: 1,
+        guarded: false,
     };
     let span = Span {
         xend: 0.0,
@@ -155,7 +155,6 @@ fn nothing(answer: Answer) -> Turn
         hmin: 0.0,
         newton_tol: 0.0,
         first_step: Setting::Unset,
-        guarded: false,
     };
     Turn {
         answer,
@@ -227,6 +226,7 @@ fn kept(settings: BDF, n: usize, x0: f64, xend: f64, rtol: Tolerance, rtols: &[f
     let limits = Limits {
         steps: settings.max_steps,
         newton: newton_limit(settings.newton_maxiter),
+        guarded: settings.guarded,
     };
     fresh(n, limits, span(settings, x0, xend, rtol_min), x0)
 }

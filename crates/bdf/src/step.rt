@@ -106,7 +106,7 @@ fn judge(ws: &mut [f64], q: &mut [f64], p: Core) -> Outcome
     weigh(ws, p.n, error_const(p.order), DELTA);
     let norm = rhs_norm(ws, p.n);
     let s = safety(p.limits.newton, p.newton.iters);
-    if error_fails(p.span.guarded, norm) {
+    if error_fails(p.limits.guarded, norm) {
         return error_rejected(ws, p, s, norm);
     }
     step_accepted(ws, q, p, s, norm)

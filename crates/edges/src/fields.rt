@@ -139,7 +139,7 @@ pub(crate) fn pivoted(p: Progress, i: usize, row: usize) -> Progress {
     r
 }
 
-// No number in the state is one, and its guard is the other way.
+// Every number of the state is NaN, and its guard is turned.
 pub(crate) fn no_numbers(p: Progress) -> Progress {
     let nan = 0.0 / 0.0;
     let span = Span {
@@ -149,7 +149,6 @@ pub(crate) fn no_numbers(p: Progress) -> Progress {
         hmin: nan,
         newton_tol: nan,
         first_step: Setting::Given(nan),
-        guarded: !p.span.guarded,
     };
     let aim = Aim {
         h_signed: nan,
@@ -163,7 +162,9 @@ pub(crate) fn no_numbers(p: Progress) -> Progress {
         safety: nan,
         error_norm: nan,
     };
+    let turned = !p.limits.guarded;
     let mut r = p;
+    r.limits.guarded = turned;
     r.span = span;
     r.x = nan;
     r.pace.h = nan;

@@ -44,7 +44,7 @@ fn system(n: usize, rate: f64, slope: f64, tolerance: f64, modifies: bool, setti
     }
 }
 
-// The Rust's settings but for the first step, and guarded: no error norm is NaN here, so that nothing comes otherwise.
+// The Rust's settings but for the first step, and guarded: no error norm is NaN here, so the guard changes nothing.
 fn given(h: f64) -> BDF {
     BDF {
         max_steps: 100000,

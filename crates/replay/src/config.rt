@@ -47,8 +47,8 @@ pub(crate) fn read(inp: &mut [u8], s: Source, rtols: &mut [f64], atols: &mut [f6
     }
 }
 
-// The nine words in front: max_steps, newton_maxiter, the flags, x0, xend, and then what each of the first four flags is for. The
-// fifth is `guarded`.
+// The nine words in front: max_steps, newton_maxiter, the flags, x0, xend, and then what each of the first four flags is for. Bit
+// 4 of the flags is `guarded`.
 fn settings(head: &[usize; 9]) -> BDF {
     let flags = head[2];
     BDF {

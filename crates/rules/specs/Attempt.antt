@@ -159,7 +159,7 @@ attemptAt p ws q =
     let w = predictedAll (p .n) (p .order) ws in
     if mustFactor p then refactored p w q else newtonStart p w q
 
--- the guard against stagnation, which ends the run before the attempt is counted
+-- the test against stagnation, which ends the run before the attempt is counted
 unfoldable pub unlessStuck : Progress → List Float → List Float → After Tried
 unlessStuck p ws q =
     if Ieee.eq (p .x ⊕ tenth ⊗ absOf (p .aim .«h_signed»)) (p .x)

@@ -55,7 +55,6 @@ spanOf s x0 xend rtolMin =
       hmin = absOf (orGiven (s .«min_step») +0);
       «newton_tol» = newtonTol (s .«newton_tol») rtolMin;
       «first_step» = s .«first_step»;
-      guarded = s .guarded;
     }
 
 -- a state with nothing done: the counters 0, order 1
@@ -80,13 +79,13 @@ fresh n limits span x =
 unfoldable pub kept : BDF → ℕ → Float → Float → Tolerance → List Float → Progress
 kept s n x0 xend r rs =
     let rtolMin = maxOf (least r rs n) epsilon in
-    fresh n (record { steps = s .«max_steps»; newton = max (s .«newton_maxiter») 1 }) (spanOf s x0 xend rtolMin) x0
+    fresh n (record { steps = s .«max_steps»; newton = max (s .«newton_maxiter») 1; guarded = s .guarded }) (spanOf s x0 xend rtolMin) x0
 
 -- the state of a run that never began, or that had nothing to do
 abbrev pub nothing : Progress
 nothing =
-    fresh 0 (record { steps = 1; newton = 1 })
-    (record { xend = +0; direction = +0; hmax = +0; hmin = +0; «newton_tol» = +0; «first_step» = Unset; guarded = false }) +0
+    fresh 0 (record { steps = 1; newton = 1; guarded = false })
+    (record { xend = +0; direction = +0; hmax = +0; hmin = +0; «newton_tol» = +0; «first_step» = Unset }) +0
 
 -- ---- the workspace at the beginning: zeros, then y, rtol and atol
 

@@ -1,5 +1,5 @@
--- A state beside another: the same but for what its stages do not read. Of the fields of a state that is `guarded` alone, which only
--- the judgement of a step reads; a further field of that kind goes here.
+-- A state beside another: the same but for what its stages do not read, or only one of them. Of the fields of a state that is `guarded`
+-- alone, which only the judgement of a step reads; a further field of that kind goes here.
 use mathlib.Core.Bool.{Bool}
 use Rattle.rules.specs.Types.{Progress, Run, Turn}
 use Rattle.rules.specs.State.{After, after}
@@ -18,16 +18,8 @@ abbrev pub beside : Unread → Progress → Progress
 beside u p =
     record {
       n = p .n;
-      limits = p .limits;
-      span = record {
-        xend = p .span .xend;
-        direction = p .span .direction;
-        hmax = p .span .hmax;
-        hmin = p .span .hmin;
-        «newton_tol» = p .span .«newton_tol»;
-        «first_step» = p .span .«first_step»;
-        guarded = u .guarded (p .span .guarded);
-      };
+      limits = record { steps = p .limits .steps; newton = p .limits .newton; guarded = u .guarded (p .limits .guarded) };
+      span = p .span;
       evals = p .evals;
       steps = p .steps;
       order = p .order;

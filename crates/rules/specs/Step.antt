@@ -28,7 +28,7 @@ use Rattle.rules.specs.Attempt.{rescaledD, told, Tried, rejected, says}
 unfoldable pub errorFails : Bool → Float → Bool
 errorFails guarded norm = Ieee.lt one norm || (guarded && Ieee.isNan norm)
 
--- what a rejection for its error leaves of the step: safety times root, at least MIN_FACTOR; half of it where the norm is NaN
+-- what a rejection for its error leaves of the step: safety times root, at least MIN_FACTOR; or one half, where the norm is NaN
 unfoldable pub errorFactor : ℕ → Float → Float → Float
 errorFactor order safety norm = if Ieee.isNan norm then half else maxOf (safety ⊗ inverseRoot (order + 1) norm) minFactor
 
@@ -76,7 +76,7 @@ judged p ws q =
     let norm = rhsNorm (p .n) w in
     let safety = safetyOf (p .limits .newton) (p .newton .iters) in
     let e = errorRejected p safety norm w in
-    if errorFails (p .span .guarded) norm then after (e .is) (e .ws) q else stepAccepted p safety norm w q
+    if errorFails (p .limits .guarded) norm then after (e .is) (e .ws) q else stepAccepted p safety norm w q
 
 -- ---- the iteration
 

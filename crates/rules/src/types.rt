@@ -122,10 +122,11 @@ pub enum Awaited {
     Ended,
 }
 
-// max_steps, and the Newton limit with 0 already read as 1.
+// What bounds the attempts: max_steps, the Newton limit with 0 already read as 1, and whether an error norm that is NaN fails.
 pub struct Limits {
     pub steps: usize,
     pub newton: usize,
+    pub guarded: bool,
 }
 
 // What stays as the beginning computed it.
@@ -136,7 +137,6 @@ pub struct Span {
     pub hmin: f64,
     pub newton_tol: f64,
     pub first_step: Setting,
-    pub guarded: bool,
 }
 
 // As in the Rust, and beside it `start`: 1 once the automatic start has asked its derivative, which `ode` does not count.

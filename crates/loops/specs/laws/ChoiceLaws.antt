@@ -18,7 +18,7 @@ pub when-false : {A : Type 0} {b : Bool} (x y : A) → b ≡ false → (if b the
 unfolding if_then_else_
 when-false x y t = rw t
 
--- a function of a choice is the choice of its values: by the same test, and where each way is known to be taken
+-- a function of a choice is the choice of its values by the same test; each way may use how the test went
 pub through :
     {A B : Type 0} (m : A → B) {b b′ : Bool} {x y : A} {x′ y′ : B} → b′ ≡ b → (b ≡ true → x′ ≡ m x) → (b ≡ false → y′ ≡ m y) →
     (if b′ then x′ else y′) ≡ m (if b then x else y)

@@ -1,7 +1,7 @@
--- A stage does not see what it does not read: from a state beside another it leaves the same, with its state beside. Stage by stage,
--- last first. Every field that a stage reads is the same in both, so that most of it computes; a choice goes by the same test in both
--- (`through`). Only the judgement of a step reads the guard, and there it tells only where the error norm is NaN: a reply asks that it
--- leads to no judgement of such a norm (`Quiet`).
+-- No stage sees the guard but the judgement of a step: from a state beside another a stage leaves the same, with its state beside. Stage by
+-- stage, last first. Every field that a stage reads is the same in both, so that most of it computes; a choice goes by the same test in
+-- both (`through`). In the judgement the guard matters only where the error norm is NaN: the law of a reply assumes that the reply leads to
+-- no judgement of such a norm (`Quiet`).
 use mathlib.Core.Path.{_≡_, refl, ap, _∙_}
 use mathlib.Core.List.{List}
 use mathlib.Core.Bool.{Bool, true, false}
@@ -137,7 +137,7 @@ module _ (u : Unread) where
   judged-blind : (p : Progress) (ws q : List Float) → isNan (judgedNorm p ws) ≡ false → judged (beside u p) ws q ≡ attemptBeside u (judged p ws q)
   unfolding judged errorRejected
   judged-blind p ws q e =
-      through (attemptBeside u) (number-fails-alike _ (u .guarded (p .span .guarded)) (p .span .guarded) e)
+      through (attemptBeside u) (number-fails-alike _ (u .guarded (p .limits .guarded)) (p .limits .guarded) e)
       (λ _. rejects-blind (rejected+1 (withPace p _)) _ q)
       (λ _. step-accepted-blind p _ _ _ q)
 

@@ -74,7 +74,7 @@ module _ (i : Type 0) (x : Float) (v : List Float) where
       let predicts : Holds x v p (predictedAll (p .n) (p .order) ws) = now h (predicted-keeps (sees p) (p .order) ws (h .shows)) in
       either Comes _ (λ _. refactored-comes p _ q predicts) (λ _. newton-start-comes p _ q predicts)
 
-  -- the step that the end tells is the step that the guard tested
+  -- the step that the end tells is the step that was tested
   unless-stuck-comes :
       (p : Progress) (ws q : List Float) → p .aim .«h_signed» ≡ p .span .direction ⊗ p .pace .h → Holds x v p ws → Comes (unlessStuck p ws q)
   unfolding unlessStuck

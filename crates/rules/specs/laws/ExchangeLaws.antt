@@ -36,7 +36,7 @@ pub record Set (c : Configuration) (p : Progress) : Type 0 where
   pub same-steps : p .limits .steps ≡ c .settings .«max_steps»
   pub same-newton : p .limits .newton ≡ max (c .settings .«newton_maxiter») 1
   pub same-first : p .span .«first_step» ≡ c .settings .«first_step»
-  pub same-guard : p .span .guarded ≡ c .settings .guarded
+  pub same-guard : p .limits .guarded ≡ c .settings .guarded
   pub same-end : p .span .xend ≡ c .xend
   pub same-direction : p .span .direction ≡ direction c
   pub pivots : Repivoted (p .n) (replicate maxN 0) (p .pivot)
@@ -98,7 +98,7 @@ module _ {c : Configuration} where
         same-steps = t .same-steps ∙ s .same-steps;
         same-newton = t .same-newton ∙ s .same-newton;
         same-first = ap (λ (x : Span). x .«first_step») (t .same-span) ∙ s .same-first;
-        same-guard = ap (λ (x : Span). x .guarded) (t .same-span) ∙ s .same-guard;
+        same-guard = t .same-guard ∙ s .same-guard;
         same-end = ap (λ (x : Span). x .xend) (t .same-span) ∙ s .same-end;
         same-direction = ap (λ (x : Span). x .direction) (t .same-span) ∙ s .same-direction;
         pivots = rw (t .same-n) (repivoted-twice (s .pivots) (t .pivots));

@@ -1,6 +1,6 @@
 -- A guarded run and an unguarded one, call by call: beginning and going on with the guard set otherwise do the same, but for the guard in
 -- the state, as long as no attempt is judged whose error norm is NaN. The checks do not read the guard, and no stage but the judgement
--- does (BlindLaws). And what becomes of an attempt whose norm is NaN: guarded it is rejected, unguarded it is told as a step.
+-- does (BlindLaws).
 use mathlib.Core.Path.{_≡_, refl, sym, ap, _∙_, subst}
 use mathlib.Core.List.{List, _++_}
 use mathlib.Core.Bool.{Bool, true, false, not, _&&_}

@@ -32,5 +32,6 @@ pub data Repivoted (n : ℕ) (old : List ℕ) : List ℕ → Type 0 where
 -- attempts, accepted and rejected ones there are, and the order
 pub record Moved (p r : Progress) (ode jac lu total accepted rejected order : ℕ) : Type 0 where
   pub counts : Counts p r ode jac lu total accepted rejected order
+  pub same-guard : r .limits .guarded ≡ p .limits .guarded
   pub same-span : r .span ≡ p .span
   pub pivots : Repivoted (p .n) (p .pivot) (r .pivot)

@@ -1,5 +1,5 @@
 -- What becomes of an attempt whose error norm is NaN, and of the others where the guard is off. NaN is not above 1, so only the guard
--- rejects it; a norm above 1 is no NaN, so only the guard's rejection takes half of the step.
+-- rejects it; a norm above 1 is no NaN, so it never gets the guard's factor.
 use mathlib.Core.Path.{_≡_, refl, sym, ap, _∙_}
 use mathlib.Core.List.{List}
 use mathlib.Core.Bool.{Bool, true, false, true≢false, false≢true, not, _||_}
@@ -70,19 +70,19 @@ number-factor order safety norm e = when-false _ _ e
 -- ---- the judgement
 
 module _ (p : Progress) (ws q : List Float) where
-  pub judged-guarded-nan : p .span .guarded ≡ true → isNan (judgedNorm p ws) ≡ true → judged p ws q ≡ rejectedAfter half p ws q
+  pub judged-guarded-nan : p .limits .guarded ≡ true → isNan (judgedNorm p ws) ≡ true → judged p ws q ≡ rejectedAfter half p ws q
   unfolding judged errorRejected
   judged-guarded-nan on e =
       when-true _ _ (rw on (guarded-nan-fails _ e)) ∙ ap (λ (f : Float). rejectedAfter f p ws q) (nan-factor (p .order) (safetyAt p) _ e)
 
   pub judged-unguarded-nan :
-      p .span .guarded ≡ false → isNan (judgedNorm p ws) ≡ true →
+      p .limits .guarded ≡ false → isNan (judgedNorm p ws) ≡ true →
       judged p ws q ≡ stepAccepted p (safetyAt p) (judgedNorm p ws) (errorWs (p .n) (p .order) ws) q
   unfolding judged
   judged-unguarded-nan off e = when-false _ _ (rw off (unguarded-nan-passes _ e))
 
   pub judged-unguarded :
-      p .span .guarded ≡ false →
+      p .limits .guarded ≡ false →
       judged p ws q ≡
       (if lt one (judgedNorm p ws)
       then rejectedAfter (maxOf (safetyAt p ⊗ inverseRoot (p .order + 1) (judgedNorm p ws)) minFactor) p ws q
@@ -98,14 +98,14 @@ module _ (p : Progress) (ws q : List Float) where
 module _ (p : Progress) (values ws q : List Float) (ends-here : isJudged p values ws ≡ true) (e : isNan (errorNorm p values ws) ≡ true) where
   -- guarded, the main loop goes on with half of the step
   pub newton-guarded-nan :
-      p .span .guarded ≡ true → (v : List Float) × (newtonTurn p values ws q ≡ mainLoop (rejectedBy half (ode+1 p)) v q)
+      p .limits .guarded ≡ true → (v : List Float) × (newtonTurn p values ws q ≡ mainLoop (rejectedBy half (ode+1 p)) v q)
   unfolding newtonTurn newtonReplied iterated
   newton-guarded-nan on =
       (_, ap (λ (a : After Tried). onward mainLoop (a .is) (a .ws) (a .q)) (when-true _ _ ends-here ∙ judged-guarded-nan (ode+1 p) _ q on e))
 
   -- unguarded, the step is told
   pub newton-unguarded-nan :
-      p .span .guarded ≡ false →
+      p .limits .guarded ≡ false →
       (newtonTurn p values ws q .is .run .at ≡ acceptedFrom (ode+1 p) (safetyAt p) (errorNorm p values ws)) ×
       (isStep (newtonTurn p values ws q .is .answer) ≡ true)
   unfolding newtonTurn newtonReplied iterated stepAccepted

@@ -120,6 +120,7 @@ pub record Stays (p r : Progress) : Type 0 where
   pub same-n : r .n ≡ p .n
   pub same-steps : r .limits .steps ≡ p .limits .steps
   pub same-newton : r .limits .newton ≡ p .limits .newton
+  pub same-guard : r .limits .guarded ≡ p .limits .guarded
   pub same-span : r .span ≡ p .span
   pub pivots : Repivoted (p .n) (p .pivot) (r .pivot)
 

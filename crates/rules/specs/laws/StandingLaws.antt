@@ -39,7 +39,7 @@ pub stays-with :
       newton = newton;
       pivot = p .pivot;
     })
-stays-with p = record { same-n = refl; same-steps = refl; same-newton = refl; same-span = refl; pivots = as-before }
+stays-with p = record { same-n = refl; same-steps = refl; same-newton = refl; same-guard = refl; same-span = refl; pivots = as-before }
 
 stays-twice : {p r s : Progress} → Stays p r → Stays r s → Stays p s
 stays-twice f g =
@@ -47,6 +47,7 @@ stays-twice f g =
       same-n = g .same-n ∙ f .same-n;
       same-steps = g .same-steps ∙ f .same-steps;
       same-newton = g .same-newton ∙ f .same-newton;
+      same-guard = g .same-guard ∙ f .same-guard;
       same-span = g .same-span ∙ f .same-span;
       pivots = repivoted-twice (f .pivots) (rw (f .same-n) at (g .pivots));
     }
@@ -57,6 +58,7 @@ stays-moved m =
       same-n = m .counts .same-n;
       same-steps = m .counts .same-steps;
       same-newton = m .counts .same-newton;
+      same-guard = m .same-guard;
       same-span = m .same-span;
       pivots = m .pivots;
     }

@@ -5,7 +5,7 @@
 --                   lie a hair beyond, or as far as the caller's own modification put it: Success does not say that x is xend.
 -- NeedLargerNMax    T, the attempts, is the step limit.
 -- UserInterrupt     The last reply was Interrupt.
--- StepSizeTooSmall  The step's size is below MIN_POSITIVE, or a tenth of the step does not move x (the guard against stagnation).
+-- StepSizeTooSmall  The step's size is below MIN_POSITIVE, or a tenth of the step does not move x (the test against stagnation).
 --
 -- An exchange has at most one end, and it is its last answer. For n above 0 it tells the step's size with the direction's sign, and
 -- comes after one start notice. The last value told is the end's: where nothing was modified after it, the last notice told this very

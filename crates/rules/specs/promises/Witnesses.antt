@@ -1,6 +1,6 @@
 -- That nothing is promised of what cannot be: the job that 01 prints is an exchange with every solver that meets the contracts, with
--- demand 3's counters at its end; two callers of it whose slices differ are twins from the beginning to that end, and so are abreast a
--- guarded and an unguarded one; and a solver that invents its counters can be had, so that to rule it out says something.
+-- demand 3's counters at its end; two callers of it whose slices differ are twins from the beginning to that end, and a guarded and an
+-- unguarded one stay abreast to it; and a solver that invents its counters can be had, so that to rule it out says something.
 use mathlib.Core.Path.{_≡_, refl, sym, ap, _∙_, subst}
 use mathlib.Core.List.{List, [], _∷_}
 use mathlib.Core.Bool.{true}
@@ -12,6 +12,7 @@ use lib.Ieee.{nan}
 use Rattle.rules.specs.Types.{Answer, Derivative, Jacobian, Start, Step, End, Success, Ended, Run, Turn}
 use Rattle.rules.specs.Places.{need}
 use Rattle.rules.specs.State.{total+1, turn, After, after}
+use Rattle.rules.specs.Answers.{isRefused}
 use Rattle.rules.specs.Begin.{nothing}
 use Rattle.rules.specs.GoOn.{goOn}
 use Rattle.rules.specs.Calls.{Configuration, beginning, goingOn, size}
@@ -21,11 +22,11 @@ use Rattle.rules.specs.promises.Demand3.{Counted}
 use Rattle.rules.specs.promises.Workspace.{Twins, begin, go-on, workspace-changes-no-answer}
 use Rattle.rules.specs.Beside.{callBeside}
 use Rattle.rules.specs.Guarding.{guardedAs}
-use Rattle.rules.specs.promises.Guarded.{Abreast, begins, goes-on, abreast-agrees, same-until-a-nan}
+use Rattle.rules.specs.promises.Guarded.{Abreast, both-begin, both-go-on, abreast-agrees, same-until-a-nan}
 use Rattle.rules.specs.promises.Solver.{Solver, Meets, ours, Line, line, Replied, next, transcript-same}
 use Rattle.rules.specs.promises.AnySolver.{ExchangeWith, has-begun, exchange-is-ours, every-solver-counts, lastOf, answersOf, AllTaken, transcript-is-exchanged, lastLine, last-is-told}
 use Rattle.rules.specs.promises.Printed.{nought, half, one, job, transcriptOfJob, replies, lines, NoNan, computed}
-use Rattle.rules.specs.promises.Impostors.{Miscounts, no-miscounter}
+use Rattle.rules.specs.promises.Impostors.{lineAt, Miscounts, no-miscounter}
 
 pub ours-meets : Meets ours
 ours-meets = record { begins = λ c ws q. refl; goes-on = λ run call. refl }
@@ -128,7 +129,7 @@ abreast-stay {c} {g} {h} b (r ∷ replies) none =
     let ones = replicate (length (g .q)) one in
     let room′ = subst (λ (u : Turn). need (u .run .at .n) ≤ length (h .ws)) (a .turns) (a .room′) in
     let alike : Alike (size g) (g .q) ones = ap (λ (k : ℕ). ltb k (8 * size g)) (sym (length-replicate (length (g .q)) one)) in
-    abreast-stay (goes-on (r .0) (r .1) (g .ws) (h .ws) (g .q) ones b (a .room, refl) (room′, refl) alike (none .0)) replies (none .1)
+    abreast-stay (both-go-on (r .0) (r .1) (g .ws) (h .ws) (g .q) ones b (a .room, refl) (room′, refl) alike (none .0)) replies (none .1)
 
 abbrev pub guardedBegun : After Turn
 guardedBegun = beginning (guardedAs true (job 100000)) (replicate 40 one) (replicate 8 one)
@@ -141,8 +142,9 @@ pub record PrintedAbreast : Type 0 where
 
 pub printed-abreast : PrintedAbreast
 printed-abreast =
+    let taken = ap (λ (l : List Line). isRefused (lineAt 0 l .answer)) (computed .printed) in
     let begun : Abreast (job 100000) firstBegun guardedBegun =
-    begins (replicate 35 nan) (replicate 40 one) (replicate 8 nan) (replicate 8 one) (omega arith) (omega arith) refl in
+    both-begin (replicate 35 nan) (replicate 40 one) (replicate 8 nan) (replicate 8 one) (omega arith) (omega arith) refl taken in
     let b = abreast-stay begun (replies nought) (computed .no-nan) in
     let ends = printed-twins .first-ends in
     record {
