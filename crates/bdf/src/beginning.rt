@@ -40,7 +40,7 @@ ghost use Rattle.rules.specs.State.{after, turn};
 ghost use Rattle.rules.specs.declared.types.Awaited.the-variants.{Ended};
 ghost use Rattle.rules.specs.Places.{need as needOf};
 ghost use Rattle.rules.specs.Checks.{reaches as reachesOf};
-ghost use Rattle.rules.specs.Begin.{orGiven, least as leastOf, derivedTol, newtonTol, spanOf, fresh as freshOf, kept as keptOf, nothing as nothingOf, tolerances, beginWs, askFirst, beginRun, beginOf};
+ghost use Rattle.rules.specs.Begin.{orGiven, least as leastOf, derivedTol, newtonTol, guardOf, spanOf, fresh as freshOf, kept as keptOf, nothing as nothingOf, tolerances, beginWs, askFirst, beginRun, beginOf};
 ghost use Rattle.matrix.specs.Size.{maxN};
 
 fn or_given(s: Setting, other: f64) -> f64
@@ -146,7 +146,7 @@ fn nothing(answer: Answer) -> Turn
     let limits = Limits {
         steps: 1,
         newton: 1,
-        guarded: false,
+        guarded: 0,
     };
     let span = Span {
         xend: 0.0,
@@ -192,6 +192,12 @@ fn newton_limit(given: usize) -> usize
     if given < 1 { 1 } else { given }
 }
 
+fn guard(on: bool) -> usize
+    ensures { λ r. ⌜ r ≡ guardOf on ⌝ }
+{
+    if on { 1 } else { 0 }
+}
+
 // The workspace laid out, and the first derivative asked.
 fn ask_first(
     ws: &mut [f64],
@@ -226,7 +232,7 @@ fn kept(settings: BDF, n: usize, x0: f64, xend: f64, rtol: Tolerance, rtols: &[f
     let limits = Limits {
         steps: settings.max_steps,
         newton: newton_limit(settings.newton_maxiter),
-        guarded: settings.guarded,
+        guarded: guard(settings.guarded),
     };
     fresh(n, limits, span(settings, x0, xend, rtol_min), x0)
 }

@@ -28,6 +28,7 @@ use rules::types::Awaited;
 ghost use mathlib.Core.Path.{_≡_};
 ghost use mathlib.Core.List.{List};
 ghost use Prim.Native.Nat.{ℕ, _+_, _*_, _≤_, _<_};
+ghost use lib.Dec.{eqb};
 ghost use lib.ListN.{length};
 ghost use Rattle.matrix.specs.Size.{maxN};
 ghost use Rattle.rules.specs.laws.Ready.{Room, Sane, Ready, Awake, Judging};
@@ -35,13 +36,13 @@ ghost use Rattle.rules.specs.State.{left, after};
 ghost use Rattle.bdf.specs.Core.{whole, bare, tried};
 ghost use Rattle.rules.specs.Step.{errorFails, errorFactor, errorRejected, stepAccepted, judged, newtonFailed, newtonAgain, iterated as iteratedOf, newtonReplied};
 
-fn error_fails(guarded: bool, norm: f64) -> bool
-    ensures { λ r. ⌜ r ≡ errorFails guarded norm ⌝ }
+fn error_fails(guarded: usize, norm: f64) -> bool
+    ensures { λ r. ⌜ r ≡ errorFails (eqb guarded 1) norm ⌝ }
 {
     if norm > 1.0 {
         return true;
     }
-    guarded && norm != norm
+    guarded == 1 && norm != norm
 }
 
 // Only a guarded run comes here with a norm that is NaN.

@@ -162,7 +162,7 @@ pub(crate) fn no_numbers(p: Progress) -> Progress {
         safety: nan,
         error_norm: nan,
     };
-    let turned = !p.limits.guarded;
+    let turned = if p.limits.guarded == 1 { 0 } else { 1 };
     let mut r = p;
     r.limits.guarded = turned;
     r.span = span;

@@ -1,6 +1,6 @@
 -- The beginning: past the checks, what `solve` computes before its first derivative, and the first question.
 use mathlib.Core.List.{List, _++_}
-use mathlib.Core.Bool.{false}
+use mathlib.Core.Bool.{Bool, true, false}
 use Prim.Native.Nat.{ℕ, max}
 use lib.Dec.{ltb, eqb}
 use lib.ListN.{length, take, drop, replicate}
@@ -57,6 +57,11 @@ spanOf s x0 xend rtolMin =
       «first_step» = s .«first_step»;
     }
 
+-- the setting `guarded` as the state keeps it
+abbrev pub guardOf : Bool → ℕ
+guardOf true = 1
+guardOf false = 0
+
 -- a state with nothing done: the counters 0, order 1
 abbrev pub fresh : ℕ → Limits → Span → Float → Progress
 fresh n limits span x =
@@ -79,12 +84,12 @@ fresh n limits span x =
 unfoldable pub kept : BDF → ℕ → Float → Float → Tolerance → List Float → Progress
 kept s n x0 xend r rs =
     let rtolMin = maxOf (least r rs n) epsilon in
-    fresh n (record { steps = s .«max_steps»; newton = max (s .«newton_maxiter») 1; guarded = s .guarded }) (spanOf s x0 xend rtolMin) x0
+    fresh n (record { steps = s .«max_steps»; newton = max (s .«newton_maxiter») 1; guarded = guardOf (s .guarded) }) (spanOf s x0 xend rtolMin) x0
 
 -- the state of a run that never began, or that had nothing to do
 abbrev pub nothing : Progress
 nothing =
-    fresh 0 (record { steps = 1; newton = 1; guarded = false })
+    fresh 0 (record { steps = 1; newton = 1; guarded = 0 })
     (record { xend = +0; direction = +0; hmax = +0; hmin = +0; «newton_tol» = +0; «first_step» = Unset }) +0
 
 -- ---- the workspace at the beginning: zeros, then y, rtol and atol

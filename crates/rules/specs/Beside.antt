@@ -1,16 +1,18 @@
 -- A state beside another: the same but for what its stages do not read, or only one of them. Of the fields of a state that is `guarded`
 -- alone, which only the judgement of a step reads; a further field of that kind goes here.
 use mathlib.Core.Bool.{Bool}
+use Prim.Native.Nat.{ℕ}
 use Rattle.rules.specs.Types.{Progress, Run, Turn}
 use Rattle.rules.specs.State.{After, after}
 use Rattle.rules.specs.Attempt.{Tried, rejected, says}
+use Rattle.rules.specs.Begin.{guardOf}
 
 -- what becomes of each such field
 pub record Unread : Type 0 where
-  pub guarded : Bool → Bool
+  pub guarded : ℕ → ℕ
 
 abbrev pub guardSetTo : Bool → Unread
-guardSetTo b = record { guarded = λ _. b }
+guardSetTo b = record { guarded = λ _. guardOf b }
 
 -- ---- the state so changed, and the same in a run, in a turn, in what an attempt came to
 

@@ -3,6 +3,7 @@
 use mathlib.Core.List.{List}
 use mathlib.Core.Bool.{Bool, _&&_, _||_}
 use Prim.Native.Nat.{ℕ, _+_, _*_}
+use lib.Dec.{eqb}
 use lib.Ieee as Ieee
 use lib.Ieee.{Float}
 use Rattle.loops.specs.Choice.{if_then_else_}
@@ -23,6 +24,9 @@ use Rattle.rules.specs.Judge.{safetyOf, weighed, acceptedWs}
 use Rattle.rules.specs.Attempt.{rescaledD, told, Tried, rejected, says}
 
 -- ---- the judgement of a step
+
+abbrev pub isGuarded : Progress → Bool
+isGuarded p = eqb (p .limits .guarded) 1
 
 -- `error_norm > 1.0`; in a guarded run a norm that is NaN fails too (02 §8)
 unfoldable pub errorFails : Bool → Float → Bool
@@ -76,7 +80,7 @@ judged p ws q =
     let norm = rhsNorm (p .n) w in
     let safety = safetyOf (p .limits .newton) (p .newton .iters) in
     let e = errorRejected p safety norm w in
-    if errorFails (p .limits .guarded) norm then after (e .is) (e .ws) q else stepAccepted p safety norm w q
+    if errorFails (isGuarded p) norm then after (e .is) (e .ws) q else stepAccepted p safety norm w q
 
 -- ---- the iteration
 

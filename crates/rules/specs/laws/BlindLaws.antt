@@ -15,7 +15,7 @@ use Rattle.rules.specs.State.{withPace, withAim, withNewton, withX, with
 use Rattle.rules.specs.Newton.{converged}
 use Rattle.rules.specs.Factor.{factored}
 use Rattle.rules.specs.Attempt.{Tried, rejected, says, onward, factoredFrom, singularFrom, aimed, cutAtEnd, fitted, mustFactor, halved, newtonStart, refactored, attemptAt, unlessStuck, headed, fittedAttempt, attempt, tries, mainLoop}
-use Rattle.rules.specs.Step.{errorFails, errorRejected, acceptedFrom, stepAccepted, judged, newtonFailed, newtonAgain, iterated, newtonReplied}
+use Rattle.rules.specs.Step.{isGuarded, errorFails, errorRejected, acceptedFrom, stepAccepted, judged, newtonFailed, newtonAgain, iterated, newtonReplied}
 use Rattle.rules.specs.Reply.{jacobianStored, started, hinitAsks, firstStep, hinitReplied, modified, restarted, outdated, chosen, ordered, stepped, newtonTurn, failedTurn, firstDerivative, firstJacobian, restartJacobian, stepJacobian, orderJacobian, startNoticed, stepNoticed, replied}
 use Rattle.rules.specs.Beside.{Unread, beside, triedBeside, attemptBeside, callBeside}
 use Rattle.rules.specs.Guarding.{judgedNorm, isJudged, errorNorm}
@@ -137,7 +137,7 @@ module _ (u : Unread) where
   judged-blind : (p : Progress) (ws q : List Float) → isNan (judgedNorm p ws) ≡ false → judged (beside u p) ws q ≡ attemptBeside u (judged p ws q)
   unfolding judged errorRejected
   judged-blind p ws q e =
-      through (attemptBeside u) (number-fails-alike _ (u .guarded (p .limits .guarded)) (p .limits .guarded) e)
+      through (attemptBeside u) (number-fails-alike _ (isGuarded (beside u p)) (isGuarded p) e)
       (λ _. rejects-blind (rejected+1 (withPace p _)) _ q)
       (λ _. step-accepted-blind p _ _ _ q)
 

@@ -12,7 +12,7 @@ use Rattle.matrix.specs.Size.{maxN}
 use Rattle.rules.specs.Types.{Progress, Span, Derivative, Answer, Turn, Run, End, Success, Ended, FirstDerivative}
 use Rattle.rules.specs.State.{After}
 use Rattle.rules.specs.laws.CheckLaws.{Bounded, bounded}
-use Rattle.rules.specs.Begin.{spanOf, kept, nothing, askFirst, beginRun}
+use Rattle.rules.specs.Begin.{guardOf, spanOf, kept, nothing, askFirst, beginRun}
 use Rattle.rules.specs.GoOn.{goWithin}
 use Rattle.rules.specs.laws.GoOnLaws.{handed}
 use Rattle.rules.specs.laws.Moved.{Repivoted, as-before}
@@ -36,7 +36,7 @@ pub record Set (c : Configuration) (p : Progress) : Type 0 where
   pub same-steps : p .limits .steps ≡ c .settings .«max_steps»
   pub same-newton : p .limits .newton ≡ max (c .settings .«newton_maxiter») 1
   pub same-first : p .span .«first_step» ≡ c .settings .«first_step»
-  pub same-guard : p .limits .guarded ≡ c .settings .guarded
+  pub same-guard : p .limits .guarded ≡ guardOf (c .settings .guarded)
   pub same-end : p .span .xend ≡ c .xend
   pub same-direction : p .span .direction ≡ direction c
   pub pivots : Repivoted (p .n) (replicate maxN 0) (p .pivot)

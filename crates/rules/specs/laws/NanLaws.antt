@@ -16,7 +16,7 @@ use Rattle.rules.specs.Literals.{minFactor, half}
 use Rattle.rules.specs.Places.{need}
 use Rattle.rules.specs.State.{ode+1, After}
 use Rattle.rules.specs.Attempt.{Tried, onward, mainLoop}
-use Rattle.rules.specs.Step.{errorFails, errorFactor, errorRejected, acceptedFrom, stepAccepted, errorWs, judged, iterated, newtonReplied}
+use Rattle.rules.specs.Step.{isGuarded, errorFails, errorFactor, errorRejected, acceptedFrom, stepAccepted, errorWs, judged, iterated, newtonReplied}
 use Rattle.rules.specs.Reply.{newtonTurn, replied}
 use Rattle.rules.specs.Answers.{isRefused, isStep}
 use Rattle.rules.specs.Replies.{awaitsNewton}
@@ -70,19 +70,19 @@ number-factor order safety norm e = when-false _ _ e
 -- ---- the judgement
 
 module _ (p : Progress) (ws q : List Float) where
-  pub judged-guarded-nan : p .limits .guarded ≡ true → isNan (judgedNorm p ws) ≡ true → judged p ws q ≡ rejectedAfter half p ws q
+  pub judged-guarded-nan : isGuarded p ≡ true → isNan (judgedNorm p ws) ≡ true → judged p ws q ≡ rejectedAfter half p ws q
   unfolding judged errorRejected
   judged-guarded-nan on e =
       when-true _ _ (rw on (guarded-nan-fails _ e)) ∙ ap (λ (f : Float). rejectedAfter f p ws q) (nan-factor (p .order) (safetyAt p) _ e)
 
   pub judged-unguarded-nan :
-      p .limits .guarded ≡ false → isNan (judgedNorm p ws) ≡ true →
+      isGuarded p ≡ false → isNan (judgedNorm p ws) ≡ true →
       judged p ws q ≡ stepAccepted p (safetyAt p) (judgedNorm p ws) (errorWs (p .n) (p .order) ws) q
   unfolding judged
   judged-unguarded-nan off e = when-false _ _ (rw off (unguarded-nan-passes _ e))
 
   pub judged-unguarded :
-      p .limits .guarded ≡ false →
+      isGuarded p ≡ false →
       judged p ws q ≡
       (if lt one (judgedNorm p ws)
       then rejectedAfter (maxOf (safetyAt p ⊗ inverseRoot (p .order + 1) (judgedNorm p ws)) minFactor) p ws q
@@ -98,14 +98,14 @@ module _ (p : Progress) (ws q : List Float) where
 module _ (p : Progress) (values ws q : List Float) (ends-here : isJudged p values ws ≡ true) (e : isNan (errorNorm p values ws) ≡ true) where
   -- guarded, the main loop goes on with half of the step
   pub newton-guarded-nan :
-      p .limits .guarded ≡ true → (v : List Float) × (newtonTurn p values ws q ≡ mainLoop (rejectedBy half (ode+1 p)) v q)
+      isGuarded p ≡ true → (v : List Float) × (newtonTurn p values ws q ≡ mainLoop (rejectedBy half (ode+1 p)) v q)
   unfolding newtonTurn newtonReplied iterated
   newton-guarded-nan on =
       (_, ap (λ (a : After Tried). onward mainLoop (a .is) (a .ws) (a .q)) (when-true _ _ ends-here ∙ judged-guarded-nan (ode+1 p) _ q on e))
 
   -- unguarded, the step is told
   pub newton-unguarded-nan :
-      p .limits .guarded ≡ false →
+      isGuarded p ≡ false →
       (newtonTurn p values ws q .is .run .at ≡ acceptedFrom (ode+1 p) (safetyAt p) (errorNorm p values ws)) ×
       (isStep (newtonTurn p values ws q .is .answer) ≡ true)
   unfolding newtonTurn newtonReplied iterated stepAccepted

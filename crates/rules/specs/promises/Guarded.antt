@@ -9,6 +9,7 @@ use mathlib.Core.List.{List, [], _∷_}
 use mathlib.Core.Bool.{Bool, true, false, false≢true}
 use Prim.Native.Nat.{ℕ, _+_, _≤_, _<_}
 use native.Mathlib.Omega.{arith}
+use lib.Dec.{eqb}
 use lib.ListN.{length, take}
 use lib.Ieee.{Float, lt, isNan}
 use Rattle.loops.specs.Choice.{if_then_else_}
@@ -20,8 +21,9 @@ use Rattle.rules.specs.Types.{Progress, Reply, Answer, Run, Turn, Newton
 use Rattle.rules.specs.Literals.{minFactor, half}
 use Rattle.rules.specs.Places.{need}
 use Rattle.rules.specs.State.{After}
-use Rattle.rules.specs.Step.{errorWs, stepAccepted, judged}
+use Rattle.rules.specs.Step.{isGuarded, errorWs, stepAccepted, judged}
 use Rattle.rules.specs.Answers.{isRefused, isStep}
+use Rattle.rules.specs.Begin.{guardOf}
 use Rattle.rules.specs.GoOn.{goOn}
 use Rattle.rules.specs.Calls.{Configuration, beginning, Call, goingOn, size, needed, Untouched}
 use Rattle.rules.specs.History.{begun, called, Exchange, begins, goes-on, is-refused}
@@ -41,13 +43,13 @@ use Rattle.rules.specs.laws.NanLaws.{judged-guarded-nan, judged-unguarde
 
 -- guarded, a norm that is NaN: half of the step is left, no steps of equal size, the factoring as it was, and one rejection more
 pub guarded-nan-is-rejected :
-    (p : Progress) (ws q : List Float) → p .limits .guarded ≡ true → isNan (judgedNorm p ws) ≡ true → judged p ws q ≡ rejectedAfter half p ws q
+    (p : Progress) (ws q : List Float) → isGuarded p ≡ true → isNan (judgedNorm p ws) ≡ true → judged p ws q ≡ rejectedAfter half p ws q
 guarded-nan-is-rejected p ws q on e = judged-guarded-nan p ws q on e
 
 -- unguarded, as lines 485 to 495 of the Rust have it: above 1 it is rejected by safety times root, at least MIN_FACTOR, and otherwise
 -- accepted
 pub unguarded-rejects-above-1-alone :
-    (p : Progress) (ws q : List Float) → p .limits .guarded ≡ false →
+    (p : Progress) (ws q : List Float) → isGuarded p ≡ false →
     judged p ws q ≡
     (if lt one (judgedNorm p ws)
     then rejectedAfter (maxOf (safetyAt p ⊗ inverseRoot (p .order + 1) (judgedNorm p ws)) minFactor) p ws q
@@ -71,7 +73,7 @@ said-rejects more same (asks e fresh within m) =
 not-ended : Ended ≡ NewtonDerivative → ⊥
 not-ended e = let z : _≡_ {A = ℕ} 0 1 = cc in omega arith
 
-pub nan-is-no-pass : (run : Run) (call : Call) → run .at .limits .guarded ≡ true → meetsNan run call ≡ true → Rejects (run .at) (called run call)
+pub nan-is-no-pass : (run : Run) (call : Call) → isGuarded (run .at) ≡ true → meetsNan run call ≡ true → Rejects (run .at) (called run call)
 nan-is-no-pass run call on e =
     let m = met run call e in
     let p = run .at in
@@ -87,7 +89,7 @@ pub record Passes (p : Progress) (t : Turn) : Type 0 where
   pub accepted : t .run .at .steps .accepted ≡ p .steps .accepted + 1
 
 pub unguarded-nan-passes :
-    (run : Run) (call : Call) → run .at .limits .guarded ≡ false → meetsNan run call ≡ true → Passes (run .at) (called run call)
+    (run : Run) (call : Call) → isGuarded (run .at) ≡ false → meetsNan run call ≡ true → Passes (run .at) (called run call)
 unguarded-nan-passes run call off e =
     let m = met run call e in
     let told = newton-unguarded-nan (run .at) (call .values) _ (call .q) (m .ends-here) (m .no-number) off in
@@ -104,14 +106,19 @@ unguarded-nan-passes run call off e =
 pub off-by-default : defaults .guarded ≡ false
 off-by-default = refl
 
+-- the word in the state says what was set
+as-set : (b : Bool) → eqb (guardOf b) 1 ≡ b
+as-set true = refl
+as-set false = refl
+
 module _ {c : Configuration} {run : Run} {h : List Answer} (x : Exchange c run h) where
   -- the state keeps the setting, in a run that has components
-  pub guard-is-kept : 1 ≤ length (c .y0) → run .at .limits .guarded ≡ c .settings .guarded
+  pub guard-is-kept : 1 ≤ length (c .y0) → isGuarded (run .at) ≡ c .settings .guarded
   guard-is-kept some = by (exchange-kept x)
     where
-      by : {run : Run} {h : List Answer} → Kept c run h → run .at .limits .guarded ≡ c .settings .guarded
+      by : {run : Run} {h : List Answer} → Kept c run h → isGuarded (run .at) ≡ c .settings .guarded
       by (idle none) = absurd (omega arith)
-      by (works s i t) = s .same-guard
+      by (works s i t) = ap (λ (k : ℕ). eqb k 1) (s .same-guard) ∙ as-set (c .settings .guarded)
 
   -- a run without any has ended, and judges nothing
   meets-with-some : (call : Call) → meetsNan run call ≡ true → 1 ≤ length (c .y0)
