@@ -1,6 +1,6 @@
 -- The packed form of a job, field by field: a head of 40 bits, then 64-bit words, the most significant bit first throughout.
 -- Each field is a plain function of the bytes.
-use mathlib.Core.List.{List, [], _∷_, _++_}
+use mathlib.Core.List.{List, [], _∷_, _++_, map}
 use Prim.Native.Nat.{ℕ, zero, suc, _+_, _*_, _/_, _%_, _^_}
 use lib.Ieee.{Float, binary64, ofBits}
 use Rattle.loops.specs.Loop.{loop}
@@ -38,17 +38,24 @@ headOf bits =
 abbrev pub place : ℕ → ℕ
 place i = headLength + 8 * i
 
--- the bits of the i-th, and its value
+-- the bits of the i-th, and of `count` of them from the i-th on
 abbrev pub wordOf : List ℕ → ℕ → ℕ
 wordOf s i = wordFrom s (place i)
 
-abbrev pub doubleOf : List ℕ → ℕ → Float
-doubleOf s i = ofBits binary64 (wordOf s i)
+unfoldable pub wordsOf : List ℕ → ℕ → ℕ → List ℕ
+wordsOf s i zero = []
+wordsOf s i (suc count) = wordsOf s i count ++ (wordOf s (i + count) ∷ [])
 
--- `count` of them from the i-th on
-unfoldable pub doublesOf : List ℕ → ℕ → ℕ → List Float
-doublesOf s i zero = []
-doublesOf s i (suc count) = doublesOf s i count ++ (doubleOf s (i + count) ∷ [])
+-- the value that bits have
+abbrev pub valueOf : ℕ → Float
+valueOf w = ofBits binary64 w
+
+-- the same doubles by their values
+abbrev pub doubleOf : List ℕ → ℕ → Float
+doubleOf s i = valueOf (wordOf s i)
+
+abbrev pub doublesOf : List ℕ → ℕ → ℕ → List Float
+doublesOf s i count = map valueOf (wordsOf s i count)
 
 -- how many bytes a job of n components has
 abbrev pub lengthFor : ℕ → ℕ

@@ -1,5 +1,9 @@
--- What is promised of a job: the contracts leave no choice, what they give at document 01's example and at files that are easily
--- judged wrongly, and that no job's run is guarded.
+-- What is promised of a job: reader and writer are each other's way back, and accept the same; doubles are read as their bits; no job's run
+-- is guarded; the contracts leave no choice; and what they give at document 01's example and at files and forms that are easily judged
+-- wrongly.
+pub mod RoundTrip
+pub mod Values
+pub mod Unguarded
 pub mod Unique
 pub mod Examples
-pub mod Unguarded
+pub mod WrittenExamples

@@ -4,7 +4,7 @@ ghost use Prim.Native.Nat.{_+_, _*_, _≤_};
 ghost use mathlib.Core.List.{_++_};
 ghost use lib.ListN.{length, drop};
 ghost use Rattle.text.specs.Words.{wordFrom};
-ghost use Rattle.job.specs.Packed.{headLength, headBits, headOf, place, doubleOf, doublesOf};
+ghost use Rattle.job.specs.Packed.{headLength, headBits, headOf, place, wordsOf, doubleOf, doublesOf};
 use matrix::MAX_N;
 use text::Word;
 
@@ -74,7 +74,7 @@ pub(crate) fn word(s: &[u8], i: usize) -> u64
 }
 
 // The i-th double.
-pub(crate) fn double(s: &[u8], i: usize) -> f64
+fn double(s: &[u8], i: usize) -> f64
     requires { ⌜ place (i + 1) ≤ length (now s) ⌝ }
     ensures { λ r. ⌜ r ≡ doubleOf (now (s .entry)) i ⌝ }
 {
@@ -88,5 +88,15 @@ pub(crate) fn doubles(s: &[u8], i: usize, count: usize, to: &mut [f64])
 {
     for k in 0..count {
         to[k] = double(s, i + k);
+    }
+}
+
+// The first `count` places of `to` take the words from the i-th on.
+pub(crate) fn words(s: &[u8], i: usize, count: usize, to: &mut [u64])
+    requires { ⌜ (place (i + count) ≤ length (now s)) × (count ≤ length (now to)) ⌝ }
+    ensures { λ _. ⌜ now (to .exit) ≡ wordsOf (now (s .entry)) i count ++ drop count (now (to .entry)) ⌝ }
+{
+    for k in 0..count {
+        to[k] = word(s, i + k);
     }
 }

@@ -1,24 +1,15 @@
-// Reading a packed job.
+// Reading a packed job, its numbers as doubles.
 ghost use mathlib.Core.Path.{_≡_};
-ghost use Prim.Native.Nat.{_+_, _*_, _≤_};
-ghost use lib.ListN.{length};
-ghost use Rattle.job.specs.Types.{maxN};
-ghost use Rattle.job.specs.Packed.{place};
-ghost use Rattle.job.specs.Reading.{acceptedOf, firstStepOf, jobOf, readingOf, readOf, settingsOf};
+ghost use Rattle.job.specs.Reading.{firstStepOf, jobOf, readingOf, readOf, settingsOf};
+use crate::form;
+use crate::form::Form;
+use crate::form::FormReading;
 use crate::packed;
 use crate::packed::CELLS;
-use crate::packed::HEAD;
-use crate::packed::Head;
 use crate::packed::SINGLE;
 use matrix::MAX_N;
 use rules::settings::BDF;
 use rules::types::Setting;
-
-// Refusal 17: the bytes are no job file.
-const NO_JOB: u64 = 17;
-
-// Refusal 1: more components than MAX_N.
-const TOO_MANY_COMPONENTS: u64 = 1;
 
 // What a job file holds beside y0 and A, which go to lent arrays.
 pub struct Job {
@@ -43,69 +34,45 @@ pub enum Reading {
 pub fn read(s: &[u8], y0: &mut [f64; MAX_N], a: &mut [f64; CELLS]) -> Reading
     ensures { λ r. ⌜ (readingOf r, now (y0 .exit), now (a .exit)) ≡ readOf (now (s .entry)) (now (y0 .entry)) (now (a .entry)) ⌝ }
 {
-    if s.len() < HEAD {
-        return Reading::Refused(NO_JOB);
+    match form::form_in(s) {
+        FormReading::Read(f) => {
+            let n = f.n;
+            packed::doubles(s, SINGLE, n, y0);
+            packed::doubles(s, SINGLE + n, n * n, a);
+            Reading::Read(job_of(f))
+        }
+        FormReading::Refused(number) => Reading::Refused(number),
     }
-    let h = packed::head_of(s);
-    if MAX_N < h.n {
-        return Reading::Refused(TOO_MANY_COMPONENTS);
-    }
-    if !accepted(s, h) {
-        return Reading::Refused(NO_JOB);
-    }
-    let n = h.n;
-    packed::doubles(s, SINGLE, n, y0);
-    packed::doubles(s, SINGLE + n, n * n, a);
-    Reading::Read(job_of(s, h))
 }
 
-// Whether the length is that of n, no padding bit is set, and a first_step that is not used has only zero bits.
-fn accepted(s: &[u8], h: Head) -> bool
-    requires { ⌜ h .n ≤ maxN ⌝ }
-    ensures { λ r. ⌜ r ≡ acceptedOf (now (s .entry)) h ⌝ }
+// The job that a form means: each number by its bits.
+fn job_of(f: Form) -> Job
+    ensures { λ r. ⌜ r ≡ jobOf f ⌝ }
 {
-    let n = h.n;
-    if s.len() != HEAD + 8 * (SINGLE + n + n * n) {
-        return false;
-    }
-    if h.padding != 0 {
-        return false;
-    }
-    if h.automatic == 0 {
-        return true;
-    }
-    packed::word(s, 2) == 0
-}
-
-// What the head and the five doubles behind it say.
-fn job_of(s: &[u8], h: Head) -> Job
-    requires { ⌜ place 5 ≤ length (now s) ⌝ }
-    ensures { λ r. ⌜ r ≡ jobOf (now (s .entry)) h ⌝ }
-{
-    let x0 = packed::double(s, 0);
-    let xend = packed::double(s, 1);
-    let rtol = packed::double(s, 3);
-    let atol = packed::double(s, 4);
+    let x0 = text::double(f.x0);
+    let xend = text::double(f.xend);
+    let rtol = text::double(f.rtol);
+    let atol = text::double(f.atol);
+    let first_step = first_step(f);
     Job {
-        n: h.n,
-        max_steps: h.max_steps,
-        newton_maxiter: h.newton_maxiter,
+        n: f.n,
+        max_steps: f.max_steps,
+        newton_maxiter: f.newton_maxiter,
         x0,
         xend,
-        first_step: first_step(s, h.automatic),
+        first_step,
         rtol,
         atol,
     }
 }
 
-fn first_step(s: &[u8], automatic: u64) -> Setting
-    requires { ⌜ place 5 ≤ length (now s) ⌝ }
-    ensures { λ r. ⌜ r ≡ firstStepOf (now (s .entry)) automatic ⌝ }
+fn first_step(f: Form) -> Setting
+    ensures { λ r. ⌜ r ≡ firstStepOf f ⌝ }
 {
-    if automatic == 0 {
-        return Setting::Given(packed::double(s, 2));
+    if f.automatic {
+        return Setting::Unset;
     }
-    Setting::Unset
+    Setting::Given(text::double(f.first_step))
 }
 
 // The solver's settings for a job: those that it does not name are unset, and no job is guarded.

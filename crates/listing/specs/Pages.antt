@@ -14,10 +14,10 @@ use Rattle.rules.specs.Answers.{isQuestionOrNotice}
 use Rattle.rules.specs.State.{After, after}
 use Rattle.rules.specs.Begin.{nothing}
 use Rattle.rules.specs.Calls.{beginning}
-use Rattle.job.specs.Reading.{ReadOutcome}
+use Rattle.job.specs.Reading.{ReadOutcome, configurationOf}
 use Rattle.listing.specs.Types.{Ended, Run, Turn}
 use Rattle.listing.specs.Replies.{replied}
-use Rattle.listing.specs.Printed.{lineOf, configurationOf, reading}
+use Rattle.listing.specs.Printed.{lineOf, reading}
 use Rattle.listing.specs.declared.opening.Said.{Said}
 use Rattle.listing.specs.declared.opening.Said.the-variants.{Told, NoJob, Over}
 use Rattle.listing.specs.declared.opening.Listing.{Listing}

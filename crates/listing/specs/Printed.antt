@@ -15,8 +15,8 @@ use Rattle.rules.specs.State.{After}
 use Rattle.rules.specs.Calls.{Configuration, beginning, size}
 use Rattle.rules.specs.promises.RunEnds.{most}
 use Rattle.lines.specs.Lines.{startLine, stepLine, endLine, refusalLine}
-use Rattle.job.specs.Reading.{ReadOutcome, readOf, settingsOf}
-use Rattle.listing.specs.Types.{Answer, Derivative, Jacobian, Start, Step, End, Refused, Scalar, Evals, Steps, Turn, Job}
+use Rattle.job.specs.Reading.{ReadOutcome, readOf, configurationOf}
+use Rattle.listing.specs.Types.{Answer, Derivative, Jacobian, Start, Step, End, Refused, Evals, Steps, Turn}
 use Rattle.listing.specs.Replies.{replied}
 
 -- ---- a run's lines
@@ -39,20 +39,6 @@ linesFrom zero a g = []
 linesFrom (suc k) a g = lineOf g ++ (if isQuestionOrNotice (g .is .answer) then linesFrom k a (replied a g) else [])
 
 -- ---- a file's
-
--- the solver's configuration for a job: one tolerance of each kind for every component
-abbrev pub configurationOf : Job → List Float → Configuration
-configurationOf job y0 =
-    record {
-      settings = settingsOf job;
-      x0 = job .x0;
-      y0 = y0;
-      xend = job .xend;
-      rtol = Scalar (job .rtol);
-      rtols = [];
-      atol = Scalar (job .atol);
-      atols = [];
-    }
 
 -- the workspace and the question slice before the beginning: zeros, enough for any job
 abbrev pub blankWork : List Float

@@ -4,7 +4,6 @@ pub use Rattle.rules.specs.declared.types.Answer.the-variants.{Derivative, Jaco
 pub use Rattle.rules.specs.declared.types.Refusal.the-variants.{Damaged}
 pub use Rattle.rules.specs.declared.types.Reply.{Reply}
 pub use Rattle.rules.specs.declared.types.Reply.the-variants.{Values, Continue}
-pub use Rattle.rules.specs.declared.types.Tolerance.the-variants.{Scalar}
 pub use Rattle.rules.specs.declared.types.Awaited.the-variants.{Ended}
 pub use Rattle.rules.specs.declared.types.Evals.{Evals}
 pub use Rattle.rules.specs.declared.types.Steps.{Steps}

@@ -5,7 +5,7 @@ ghost use lib.ListN.{length, take};
 ghost use Rattle.matrix.specs.Size.{maxN};
 ghost use Rattle.rules.specs.State.{after};
 ghost use Rattle.rules.specs.Calls.{beginning};
-ghost use Rattle.listing.specs.Printed.{configurationOf};
+ghost use Rattle.job.specs.Reading.{configurationOf};
 ghost use Rattle.listing.specs.Pages.{dueOf, begunWith, refusedOf, opened};
 use crate::replies::copy;
 use crate::replies::waits;

@@ -1,6 +1,6 @@
--- A 64-bit word out of bytes: eight digits in base 256, the most significant first.
-use mathlib.Core.List.{List}
-use Prim.Native.Nat.{ℕ, _+_, _*_}
+-- A 64-bit word out of bytes, and a number into bytes: digits in base 256, the most significant first.
+use mathlib.Core.List.{List, [], _∷_, _++_}
+use Prim.Native.Nat.{ℕ, zero, suc, _+_, _*_, _/_, _%_, _<_}
 use lib.Dec.{leb}
 use lib.ListN.{length, getD}
 use Rattle.loops.specs.Choice.{if_then_else_}
@@ -20,3 +20,12 @@ wordFrom s at = loop 0 8 (wordTurn s at) 0
 unfoldable pub wordAt : List ℕ → ℕ → Word
 unfolding wordFrom
 wordAt s at = if leb (at + 8) (length s) then Is (wordFrom s at) else Short
+
+-- the last k bytes of w: eight are the whole of a 64-bit word
+unfoldable pub bytesOf : ℕ → ℕ → List ℕ
+bytesOf zero w = []
+bytesOf (suc k) w = bytesOf k (w / 256) ++ (w % 256 ∷ [])
+
+-- every number of a list is below b: 256 where it is a list of bytes, 2^64 where it is one of words
+abbrev pub Below : ℕ → List ℕ → Type 0
+Below b s = (i : ℕ) → i < length s → getD s i 0 < b

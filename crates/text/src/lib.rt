@@ -14,4 +14,5 @@ pub use page::stands;
 pub use pattern::bits;
 pub use pattern::double;
 pub use word::Word;
+pub use word::put_word;
 pub use word::word_at;

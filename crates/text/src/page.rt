@@ -99,7 +99,7 @@ fn put_digits(out: &mut [u8], place: Place, base: u64, k: usize, n: u64) -> Plac
 }
 
 // Whether k bytes from `at` on lie within len; no sum can wrap here, whatever `at` is.
-fn has_room(len: usize, at: usize, k: usize) -> bool
+pub(crate) fn has_room(len: usize, at: usize, k: usize) -> bool
     ensures { λ r. ⌜ r ≡ leb (at + k) len ⌝ }
 {
     if len < at {

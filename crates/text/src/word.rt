@@ -1,8 +1,12 @@
-// A 64-bit word out of eight bytes, the most significant first.
+// A 64-bit word out of eight bytes, and a number into bytes, the most significant first.
 ghost use mathlib.Core.Path.{_≡_};
+ghost use mathlib.Core.List.{_++_};
 ghost use Prim.Native.Nat.{_+_, _≤_};
-ghost use lib.ListN.{length};
-ghost use Rattle.text.specs.Words.{wordAt, wordFrom};
+ghost use lib.ListN.{length, take, drop};
+ghost use Rattle.text.specs.Page.{puts};
+ghost use Rattle.text.specs.Words.{wordAt, wordFrom, bytesOf};
+use crate::page;
+use crate::page::Place;
 
 pub enum Word {
     Is(u64),
@@ -37,4 +41,34 @@ fn wide(b: u8) -> u64
     ensures { λ r. ⌜ r ≡ b ⌝ }
 {
     b as u64
+}
+
+// The last k bytes of w: eight are the whole of it.
+pub fn put_word(out: &mut [u8], place: Place, k: usize, w: u64) -> Place
+    ensures { λ r. ⌜ (r, now (out .exit)) ≡ puts (bytesOf k w) (place, now (out .entry)) ⌝ }
+{
+    match place {
+        Place::At(at) => {
+            if page::has_room(out.len(), at, k) {
+                lay_word(out, at, k, w);
+                return Place::At(at + k);
+            }
+            Place::Full
+        }
+        Place::Full => Place::Full,
+    }
+}
+
+// From the last byte to the first: each is the remainder of what is left.
+fn lay_word(out: &mut [u8], at: usize, k: usize, w: u64)
+    requires { ⌜ at + k ≤ length (now out) ⌝ }
+    ensures { λ _. ⌜ now (out .exit) ≡ take at (now (out .entry)) ++ (bytesOf k w ++ drop (at + k) (now (out .entry))) ⌝ }
+{
+    let mut left = k;
+    let mut rest = w;
+    while 0 < left {
+        left -= 1;
+        out[at + left] = (rest % 256) as u8;
+        rest = rest / 256;
+    }
 }

@@ -1,35 +1,79 @@
--- What holds of a job that was read: it has at most as many components as are served.
+-- What holds of a job that was read: it has at most as many components as are served, the file is as long as they make it, and as many
+-- numbers are read of it as are asked for.
 use mathlib.Core.Path.{_≡_, refl, sym, ap, _∙_}
 use mathlib.Core.Bool.{Bool, true, false}
-use mathlib.Core.List.{List}
-use Prim.Native.Nat.{ℕ, _≤_}
+use mathlib.Core.List.{List, [], _∷_, _++_, map}
+use Prim.Native.Nat.{ℕ, zero, suc, _≤_}
 use native.Mathlib.Omega.{arith}
-use lib.Dec.{ltb}
-use lib.ListN.{length}
+use lib.Dec.{ltb, eqb}
+use lib.ListN.{length, length-append}
 use lib.Ieee.{Float}
-use borrow.Author.Tests.{ltb-false}
+use borrow.Author.Tests.{ltb-false, eqb-true}
 use Rattle.loops.specs.Choice.{if_then_else_}
-use Rattle.loops.specs.laws.ChoiceLaws.{either}
+use Rattle.loops.specs.laws.ChoiceLaws.{either, and-first}
 use Rattle.loops.specs.Refusal.{Outcome, gives, refuses}
 use Rattle.job.specs.declared.packed.Head.{Head}
+use Rattle.job.specs.declared.form.Form.{Form}
 use Rattle.job.specs.declared.reader.Job.{Job}
 use Rattle.job.specs.Types.{maxN}
-use Rattle.job.specs.Packed.{headLength, headBits, headOf}
-use Rattle.job.specs.Reading.{ReadOutcome, acceptedOf, acceptedRead, jobOf, headRead, readOf}
+use Rattle.job.specs.Packed.{headLength, headBits, headOf, wordsOf, valueOf, doublesOf, lengthFor}
+use Rattle.job.specs.Reading.{ReadOutcome, acceptedOf, formOf, headRead, formRead, jobOf, placed, readOf}
 
--- an outcome whose job, if it gives one, has at most maxN components
-abbrev Served : ReadOutcome → Type 0
-Served r = (j : Job) → r .0 ≡ gives j → j .n ≤ maxN
+-- ---- a form that was read
 
-refusal-serves : (number : ℕ) (y0 a : List Float) → Served (refuses number, y0, a)
-refusal-serves number y0 a j e = let z : _≡_ {A = ℕ} 0 1 = cc in absurd (omega arith)
+-- a form of at most maxN components, in a file as long as they make it
+pub record Served (s : List ℕ) (f : Form) : Type 0 where
+  pub few : f .n ≤ maxN
+  pub long : length s ≡ lengthFor (f .n)
 
-head-serves : (s : List ℕ) (h : Head) (y0 a : List Float) → Served (headRead s h y0 a)
-unfolding headRead acceptedRead jobOf
-head-serves s h y0 a =
-    either Served (ltb maxN (h .n)) (λ _. refusal-serves 1 y0 a)
-    (λ few. either Served (acceptedOf s h) (λ _ j e. let same : jobOf s h ≡ j = cc in rw (← same) (ltb-false maxN (h .n) few)) (λ _. refusal-serves 17 y0 a))
+abbrev AllServed : List ℕ → Outcome Form → Type 0
+AllServed s r = (f : Form) → r ≡ gives f → Served s f
 
-pub read-serves : (s : List ℕ) (y0 a : List Float) → Served (readOf s y0 a)
+refusal-serves : (s : List ℕ) (number : ℕ) → AllServed s (refuses number)
+refusal-serves s number f e = let z : _≡_ {A = ℕ} 0 1 = cc in absurd (omega arith)
+
+pub accepted-length : (s : List ℕ) (h : Head) → acceptedOf s h ≡ true → length s ≡ lengthFor (h .n)
+unfolding acceptedOf
+accepted-length s h t = eqb-true (length s) (lengthFor (h .n)) (and-first (eqb (length s) (lengthFor (h .n))) _ t)
+
+head-serves : (s : List ℕ) (h : Head) → AllServed s (headRead s h)
+unfolding headRead formOf
+head-serves s h =
+    either (AllServed s) (ltb maxN (h .n)) (λ _. refusal-serves s 1)
+    (λ few. either (AllServed s) (acceptedOf s h)
+    (λ accepts f e. let same : formOf s h ≡ f = cc in rw (← same) record { few = ltb-false maxN (h .n) few; long = accepted-length s h accepts })
+    (λ _. refusal-serves s 17))
+
+pub form-serves : (s : List ℕ) → AllServed s (formRead s)
+unfolding formRead
+form-serves s = either (AllServed s) (ltb (length s) headLength) (λ _. refusal-serves s 17) (λ _. head-serves s (headOf (headBits s)))
+
+-- ---- a job that was read
+
+placed-serves : (s : List ℕ) (r : Outcome Form) (y0 a : List Float) → AllServed s r → (j : Job) → placed s r y0 a .0 ≡ gives j → j .n ≤ maxN
+unfolding jobOf
+placed-serves s (gives f) y0 a serves j e = let same : jobOf f ≡ j = cc in rw (← same) (serves f refl .few)
+placed-serves s (refuses number) y0 a serves j e = let z : _≡_ {A = ℕ} 0 1 = cc in absurd (omega arith)
+
+pub read-serves : (s : List ℕ) (y0 a : List Float) → (j : Job) → readOf s y0 a .0 ≡ gives j → j .n ≤ maxN
 unfolding readOf
-read-serves s y0 a = either Served (ltb (length s) headLength) (λ _. refusal-serves 17 y0 a) (λ _. head-serves s (headOf (headBits s)) y0 a)
+read-serves s y0 a = placed-serves s (formRead s) y0 a (form-serves s)
+
+-- ---- words and their values
+
+pub values-append : (u v : List ℕ) → map valueOf (u ++ v) ≡ map valueOf u ++ map valueOf v
+values-append [] v = refl
+values-append (w ∷ u) v = ap (λ (l : List Float). valueOf w ∷ l) (values-append u v)
+
+pub values-long : (u : List ℕ) → length (map valueOf u) ≡ length u
+values-long [] = refl
+values-long (w ∷ u) = let h : length (map valueOf u) ≡ length u = values-long u in omega arith
+
+-- as many as are asked for
+pub words-long : (s : List ℕ) (i count : ℕ) → length (wordsOf s i count) ≡ count
+unfolding wordsOf
+words-long s i zero = refl
+words-long s i (suc count) = let h = words-long s i count in simp length-append (omega arith)
+
+pub doubles-long : (s : List ℕ) (i count : ℕ) → length (doublesOf s i count) ≡ count
+doubles-long s i count = values-long (wordsOf s i count) ∙ words-long s i count

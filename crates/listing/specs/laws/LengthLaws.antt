@@ -2,15 +2,13 @@
 -- before, whatever is handed over. So is what the reader of a file leaves of the arrays for y0 and A, and A y is as long as y.
 use mathlib.Core.Path.{_≡_, refl, sym, _∙_}
 use mathlib.Core.List.{List, _++_}
-use Prim.Native.Nat.{ℕ, zero, suc, _+_, _*_, _≤_}
+use Prim.Native.Nat.{ℕ, _+_, _*_, _≤_}
 use native.Mathlib.Omega.{arith}
-use lib.Dec.{ltb}
-use lib.ListN.{length, take, drop, replicate, length-append, length-replicate}
+use lib.ListN.{length, take, drop, replicate, length-replicate}
 use lib.Seq.{length-take-le, length-front}
 use lib.Ieee.{Float}
-use borrow.Author.Tests.{ltb-false}
 use Rattle.loops.specs.Arithmetic.{+0}
-use Rattle.loops.specs.laws.ChoiceLaws.{either}
+use Rattle.loops.specs.Refusal.{Outcome, gives, refuses}
 use Rattle.loops.specs.laws.LoopLaws.{stored-length}
 use Rattle.text.specs.laws.Fronts.{squared}
 use Rattle.matrix.specs.Size.{maxN}
@@ -26,8 +24,10 @@ use Rattle.rules.specs.laws.QuestionLaws.{Speaks, Says}
 use Rattle.rules.specs.laws.SpeakLaws.{replied-speaks, ask-first-speaks}
 use Rattle.rules.specs.laws.CallLaws.{beginning-cases, going-on-cases}
 use Rattle.job.specs.Right.{rowSum, rightTurn, rightOf}
-use Rattle.job.specs.Packed.{headLength, headBits, headOf, doublesOf}
-use Rattle.job.specs.Reading.{ReadOutcome, acceptedOf, acceptedRead, headRead, readOf}
+use Rattle.job.specs.declared.form.Form.{Form}
+use Rattle.job.specs.Packed.{doublesOf}
+use Rattle.job.specs.Reading.{ReadOutcome, formRead, placed, readOf}
+use Rattle.job.specs.laws.ReadingLaws.{form-serves, doubles-long}
 use Rattle.listing.specs.Types.{Answer, Derivative, Jacobian, Start, Step, End, Refused, Run, Turn}
 use Rattle.listing.specs.Replies.{timesOf}
 
@@ -95,27 +95,19 @@ times-long a y = stored-length (length y) (rowSum a y) (replicate (length y) +0)
 abbrev pub Sized : ReadOutcome → Type 0
 Sized r = (length (r .1) ≡ maxN) × (length (r .2) ≡ maxN * maxN)
 
--- as many doubles as are asked for
-doubles-long : (s : List ℕ) (i count : ℕ) → length (doublesOf s i count) ≡ count
-unfolding doublesOf
-doubles-long s i zero = refl
-doubles-long s i (suc count) = simp length-append (omega (arith, doubles-long s i count))
-
 -- doubles over the first places of a list
 fronted-long : (s : List ℕ) (i count : ℕ) (l : List Float) → count ≤ length l → length (doublesOf s i count ++ drop count l) ≡ length l
 fronted-long s i count l h = length-front l (doublesOf s i count) count (doubles-long s i count ∙ sym (length-take-le count l h))
 
 -- also where it refuses
-pub read-sized : (s : List ℕ) (y0 a : List Float) → length y0 ≡ maxN → length a ≡ maxN * maxN → Sized (readOf s y0 a)
-unfolding readOf headRead acceptedRead
-read-sized s y0 a long wide =
-    let h = headOf (headBits s) in
-    let n = h .n in
-    either Sized (ltb (length s) headLength)
-    (λ _. (long, wide))
-    (λ _. either Sized (ltb maxN n)
-    (λ _. (long, wide))
-    (λ small. let few = ltb-false maxN n small in
-    either Sized (acceptedOf s h)
-    (λ _. (fronted-long s 5 n y0 (omega arith) ∙ long, fronted-long s (5 + n) (n * n) a (omega (arith, squared n maxN few)) ∙ wide))
-    (λ _. (long, wide))))
+module _ (s : List ℕ) (y0 a : List Float) (long : length y0 ≡ maxN) (wide : length a ≡ maxN * maxN) where
+  placed-sized : (o : Outcome Form) → ((f : Form) → o ≡ gives f → f .n ≤ maxN) → Sized (placed s o y0 a)
+  placed-sized (refuses number) few = (long, wide)
+  placed-sized (gives f) few =
+      let n = f .n in
+      let small = few f refl in
+      (fronted-long s 5 n y0 (omega arith) ∙ long, fronted-long s (5 + n) (n * n) a (omega (arith, squared n maxN small)) ∙ wide)
+
+  pub read-sized : Sized (readOf s y0 a)
+  unfolding readOf
+  read-sized = placed-sized (formRead s) (λ f e. form-serves s f e .few)

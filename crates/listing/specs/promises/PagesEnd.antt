@@ -16,8 +16,9 @@ use Rattle.matrix.specs.Size.{maxN}
 use Rattle.rules.specs.Answers.{isQuestionOrNotice}
 use Rattle.rules.specs.State.{After}
 use Rattle.rules.specs.Calls.{beginning}
+use Rattle.job.specs.Reading.{configurationOf}
 use Rattle.listing.specs.Types.{Turn, Job}
-use Rattle.listing.specs.Printed.{configurationOf, blankWork, blankQuestion, reading, printed}
+use Rattle.listing.specs.Printed.{blankWork, blankQuestion, reading, printed}
 use Rattle.listing.specs.Pages.{pageFrom, nextPage, begunWith, openedFrom, opened}
 use Rattle.listing.specs.laws.FilledLaws.{next-page-within}
 use Rattle.listing.specs.laws.FitsLaws.{Fitting, fits-last, beginning-fits}

@@ -17,9 +17,10 @@ use Rattle.lines.specs.Lines.{refusalLine}
 use Rattle.rules.specs.Answers.{isQuestionOrNotice}
 use Rattle.rules.specs.State.{After, after}
 use Rattle.rules.specs.promises.RunEnds.{most}
+use Rattle.job.specs.Reading.{configurationOf}
 use Rattle.listing.specs.Types.{Run, Turn, Job}
 use Rattle.listing.specs.Replies.{replied}
-use Rattle.listing.specs.Printed.{lineOf, linesFrom, configurationOf, blankWork, blankQuestion, reading, linesFor, printed}
+use Rattle.listing.specs.Printed.{lineOf, linesFrom, blankWork, blankQuestion, reading, linesFor, printed}
 use Rattle.listing.specs.Telling.{Tells, last, more}
 use Rattle.listing.specs.Pages.{UnderWay, sheetOf, turnOf, onward, answeredAt, answered, goesOn, filled, enough, Paged, stoppedOf, pagedOf, refusedAt, pageFrom, nextPage, begunWith, openedFrom, opened}
 use Rattle.listing.specs.promises.Whole.{beginningOf, reading-sized, read-tells}

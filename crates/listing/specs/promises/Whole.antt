@@ -31,10 +31,10 @@ use Rattle.rules.specs.History.{Exchange}
 use Rattle.rules.specs.Known.{Arrived, StillAsTold, lastToldX}
 use Rattle.rules.specs.promises.EndMeans.{success-was-told}
 use Rattle.rules.specs.promises.RunEnds.{most}
-use Rattle.job.specs.Reading.{ReadOutcome}
+use Rattle.job.specs.Reading.{ReadOutcome, configurationOf}
 use Rattle.job.specs.laws.ReadingLaws.{read-serves}
 use Rattle.listing.specs.Types.{Answer, Derivative, Jacobian, Start, Step, End, Refused, Run, Turn, Job}
-use Rattle.listing.specs.Printed.{linesFrom, configurationOf, blankWork, blankQuestion, runLines, reading, linesFor, printed}
+use Rattle.listing.specs.Printed.{linesFrom, blankWork, blankQuestion, runLines, reading, linesFor, printed}
 use Rattle.listing.specs.Telling.{Tells, last, Ran}
 use Rattle.listing.specs.laws.LengthLaws.{Sized, read-sized}
 use Rattle.listing.specs.laws.TellingLaws.{only-line, begun-runs}

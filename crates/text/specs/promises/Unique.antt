@@ -9,7 +9,7 @@ use Rattle.text.specs.declared.page.Place.{Place}
 use Rattle.text.specs.declared.word.Word.{Word}
 use Rattle.text.specs.Digits.{placesOf, decimal, hexadecimal}
 use Rattle.text.specs.Page.{Page, puts, standsOf}
-use Rattle.text.specs.Words.{wordAt}
+use Rattle.text.specs.Words.{wordAt, bytesOf}
 
 -- ---- text put on a page: one lemma over the text
 
@@ -31,6 +31,9 @@ module _ (page : Page) {r s : Place} {out other : List ℕ} where
 
   pub put-double-unique : (x : Float) → MeetsPut (hexadecimal x) page r out → MeetsPut (hexadecimal x) page s other → (r ≡ s) × (out ≡ other)
   put-double-unique x = put-unique (hexadecimal x)
+
+  pub put-word-unique : (k w : ℕ) → MeetsPut (bytesOf k w) page r out → MeetsPut (bytesOf k w) page s other → (r ≡ s) × (out ≡ other)
+  put-word-unique k w = put-unique (bytesOf k w)
 
 -- ---- the others give one value
 

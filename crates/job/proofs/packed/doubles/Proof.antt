@@ -1,49 +1,32 @@
 -- `packed::doubles` meets its contract. The invariant: the places passed hold their doubles, and those to come are as they were.
 -- Assumes nothing.
 use mathlib.Core.Path.{_≡_, refl, sym, ap, _∙_}
-use mathlib.Core.List.{List, _++_}
-use Prim.Native.Nat.{ℕ, suc, _+_, _-_, _≤_, _<_}
-use native.Mathlib.Numerals.{add-one}
+use mathlib.Core.List.{List, [], _∷_, _++_}
+use Prim.Native.Nat.{ℕ, suc, _+_, _-_, _≤_}
 use native.Mathlib.Omega.{arith}
-use lib.ListN.{length, take, drop, set, length-set, take-append-drop}
-use lib.Seq.{take-suc-set, drop-set-lt, drop-drop}
 use lib.Ieee.{Float}
-use Rattle.job.specs.Packed.{doubleOf, doublesOf}
+use Rattle.job.specs.Packed.{wordOf, wordsOf, valueOf, doubleOf, doublesOf}
+use Rattle.job.specs.laws.ReadingLaws.{values-append}
+use Rattle.job.proofs.Loading.{Loaded, none-loaded, one-more, all-loaded}
 use Rattle.job.proofs.packed.doubles.Statement.{statement}
 use Rattle.job.proofs.packed.doubles.Tie as tie
 
-record Loaded (s : List ℕ) (i : ℕ) (to₀ : List Float) (k : ℕ) (to : List Float) : Type 0 where
-  pub size : length to ≡ length to₀
-  pub passed : take k to ≡ doublesOf s i k
-  pub left : drop k to ≡ drop k to₀
+none-yet : (s : List ℕ) (i : ℕ) → doublesOf s i 0 ≡ []
+unfolding wordsOf
+none-yet s i = refl
 
-module _ (s : List ℕ) (i : ℕ) (to₀ : List Float) where
-  none : Loaded s i to₀ 0 to₀
-  unfolding doublesOf
-  none = record { size = refl; passed = refl; left = refl }
-
-  one-more : (k : ℕ) (to : List Float) {v : Float} → Loaded s i to₀ k to → k < length to → v ≡ doubleOf s (i + k) → Loaded s i to₀ (k + 1) (set to k v)
-  unfolding doublesOf
-  one-more k to {v} r h e =
-      let further : drop (suc k) to ≡ drop (suc k) to₀ = rw add-one at (sym (drop-drop 1 k to) ∙ ap (drop 1) (r .left) ∙ drop-drop 1 k to₀) in
-      rw add-one
-      record {
-        size = simp length-set (r .size);
-        passed = take-suc-set to k v h ∙ rw (r .passed, e);
-        left = drop-set-lt (suc k) to k v (omega arith) ∙ further;
-      }
-
-  all : (k count : ℕ) (to : List Float) → k ≡ count → Loaded s i to₀ k to → to ≡ doublesOf s i count ++ drop count to₀
-  all k count to e r = rw (← e, ← r .passed, ← r .left) (sym (take-append-drop k to))
+next : (s : List ℕ) (i k : ℕ) {v : Float} → v ≡ doubleOf s (i + k) → doublesOf s i (suc k) ≡ doublesOf s i k ++ (v ∷ [])
+unfolding wordsOf
+next s i k e = rw e (values-append (wordsOf s i k) (wordOf s (i + k) ∷ []))
 
 abbrev Inv-loop : tie.InvT-loop
-Inv-loop s i count to₀ k₀ to k = (k ≤ count) × Loaded s i to₀ k to
+Inv-loop s i count to₀ k₀ to k = (k ≤ count) × Loaded (doublesOf s i) to₀ k to
 
 abbrev μ-loop : tie.MeasureT-loop
 μ-loop s i count to₀ k₀ to k = count - k
 
 loop-holds : tie.Need-loop-holds Inv-loop μ-loop
-loop-holds c = (omega arith, none _ _ _)
+loop-holds c = (omega arith, none-loaded _ _ (none-yet _ _))
 
 slice-write-to : tie.Need-slice-write-to Inv-loop μ-loop
 slice-write-to c = omega (arith, c .before .before .loop .inv .1 .size)
@@ -52,10 +35,10 @@ loop-again : tie.Need-loop-again Inv-loop μ-loop
 loop-again c =
     let there = c .before .before .loop .inv .1 in
     let size = there .size in
-    (omega arith, one-more _ _ _ _ _ there (omega arith) (c .double .ensures))
+    (omega arith, one-more _ _ _ _ _ there (omega arith) (next _ _ _ (c .double .ensures)))
 
 returns : tie.Need-returns Inv-loop μ-loop
-returns c = all _ _ _ _ _ _ (omega arith) (c .before .loop .inv .1)
+returns c = all-loaded _ _ _ _ _ (omega arith) (c .before .loop .inv .1)
 
 mul-to : tie.Need-mul-to Inv-loop μ-loop
 mul-to c = omega (arith, c .before .before .loop .inv .1 .size)

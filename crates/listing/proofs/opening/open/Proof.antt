@@ -11,10 +11,10 @@ use Rattle.rules.specs.State.{After, after}
 use Rattle.rules.specs.Calls.{beginning}
 use Rattle.job.specs.declared.reader.Reading.{Reading}
 use Rattle.job.specs.declared.reader.Reading.the-variants.{Read, Refused}
-use Rattle.job.specs.Reading.{ReadOutcome, readingOf}
+use Rattle.job.specs.Reading.{ReadOutcome, readingOf, configurationOf}
 use Rattle.job.specs.laws.ReadingLaws.{read-serves}
 use Rattle.listing.specs.Types.{Job}
-use Rattle.listing.specs.Printed.{configurationOf, reading}
+use Rattle.listing.specs.Printed.{reading}
 use Rattle.listing.specs.Pages.{refusedOf, begunWith, openedFrom, opened}
 use Rattle.listing.specs.declared.opening.Listing.{Listing}
 use Rattle.listing.proofs.opening.open.Statement.{statement}

@@ -6,21 +6,17 @@ use Prim.Native.Nat.{ℕ, _≤_, _+_, _-_}
 use native.Mathlib.Nat.{mod-lt}
 use native.Mathlib.Omega.{arith}
 use lib.ListN.{length, length-set}
-use Rattle.text.proofs.Spelling.{spelledInto, spelled-into-more, spelled-into-is-spelled}
+use Rattle.text.specs.Digits.{digit}
+use Rattle.text.proofs.Spelling.{writtenInto, written-into-more, none-left, spelled-into-is-spelled}
 use Rattle.text.proofs.page.spell.Statement.{statement}
 use Rattle.text.proofs.page.spell.Tie as tie
 
 abbrev Inv-loop : tie.InvT-loop
 Inv-loop out₀ at base k n left₀ rest₀ out left rest =
-    (length out ≡ length out₀) × ((left ≤ k) × (spelledInto base at left rest out ≡ spelledInto base at k n out₀))
+    (length out ≡ length out₀) × ((left ≤ k) × (writtenInto digit base at left rest out ≡ writtenInto digit base at k n out₀))
 
 abbrev μ-loop : tie.MeasureT-loop
 μ-loop out₀ at base k n left₀ rest₀ out left rest = left
-
--- with no digit left, nothing is written
-none-left : (base at left rest : ℕ) (out : List ℕ) {after : List ℕ} → left ≤ 0 → spelledInto base at left rest out ≡ after → out ≡ after
-unfolding spelledInto
-none-left base at left rest out h e = let z : left ≡ 0 = omega arith in rw z at e
 
 loop-holds : tie.Need-loop-holds Inv-loop μ-loop
 loop-holds c = (refl, (omega arith, refl))
@@ -34,12 +30,12 @@ slice-write-out c = omega arith
 loop-again : tie.Need-loop-again Inv-loop μ-loop
 loop-again c = (
   simp length-set (omega arith),
-  (omega arith, rw (c .digit .ensures) (sym (spelled-into-more _ _ _ _ _ (c .before .loop-test .taken)) ∙ c .before .before .loop .inv .1 .1)),
+  (omega arith, rw (c .digit .ensures) (sym (written-into-more _ _ _ _ _ _ (c .before .loop-test .taken)) ∙ c .before .before .loop .inv .1 .1)),
 )
 
 returns : tie.Need-returns Inv-loop μ-loop
 returns c =
-    none-left _ _ _ _ _ (c .loop-test .left) (c .before .loop .inv .1 .1) ∙ spelled-into-is-spelled _ _ _ _ _ (c .before .before .before .pre .0)
+    none-left _ _ _ _ _ _ (c .loop-test .left) (c .before .loop .inv .1 .1) ∙ spelled-into-is-spelled _ _ _ _ _ (c .before .before .before .pre .0)
 
 pub spell-spec : {M : Type 1} → statement M
 spell-spec =

@@ -1,11 +1,11 @@
--- `reader::accepted` meets its contract: the code's tests are those of the definition, in its order. Assumes nothing.
+-- `form::accepted` meets its contract: the code's tests are those of the definition, in its order. Assumes nothing.
 use native.Mathlib.Nat.{mul-le-mul}
 use native.Mathlib.Omega.{arith}
 use borrow.Author.Needs.{needs}
 use borrow.Author.Tests.{eq-eqb, ne-eqb}
 use Rattle.job.specs.Reading.{acceptedOf}
-use Rattle.job.proofs.reader.accepted.Statement.{statement}
-use Rattle.job.proofs.reader.accepted.Tie as tie
+use Rattle.job.proofs.form.accepted.Statement.{statement}
+use Rattle.job.proofs.form.accepted.Tie as tie
 
 mul-if1 : tie.Need-mul-if1
 mul-if1 c = omega (arith, mul-le-mul (c .before .pre) (c .before .pre))

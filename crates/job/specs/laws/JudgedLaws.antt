@@ -1,0 +1,46 @@
+-- What a form has that is accepted, test by test of `judgedOf`, and back.
+use mathlib.Core.Path.{_≡_, refl, sym, ap, _∙_}
+use mathlib.Core.Bool.{true}
+use mathlib.Core.List.{List}
+use Prim.Native.Nat.{ℕ, _≤_}
+use native.Mathlib.Omega.{arith}
+use lib.Dec.{ltb}
+use borrow.Author.Tests.{le-ltb, ltb-false}
+use Rattle.loops.specs.Refusal.{Outcome, gives, refuses}
+use Rattle.loops.specs.laws.ChoiceLaws.{either, when-true, when-false}
+use Rattle.job.specs.declared.form.Form.{Form}
+use Rattle.job.specs.Types.{Check, Refuse, Passed, maxN}
+use Rattle.job.specs.Packed.{lengthFor}
+use Rattle.job.specs.Reading.{jobOf}
+use Rattle.job.specs.Writing.{fitsOf, beginsOf, begunOf, judgedOf}
+
+pub record Accepted (f : Form) (y0 a : List ℕ) : Type 0 where
+  pub few : f .n ≤ maxN
+  pub fits : fitsOf f y0 a ≡ true
+  pub begins : beginsOf (jobOf f) ≡ Passed
+
+-- a refusal gives nothing
+refuses-nothing : {A : Type 0} {number k : ℕ} → refuses number ≡ gives k → A
+refuses-nothing e = let z : _≡_ {A = ℕ} 0 1 = cc in absurd (omega arith)
+
+begun-passes : (long k : ℕ) (check : Check) → begunOf long check ≡ gives k → (check ≡ Passed) × (k ≡ long)
+begun-passes long k Passed e = (refl, cc)
+begun-passes long k (Refuse why) e = refuses-nothing e
+
+module _ (f : Form) (y0 a : List ℕ) where
+  -- what an outcome of `judgedOf` says where it gives a length
+  abbrev Says : Outcome ℕ → Type 0
+  Says r = (k : ℕ) → r ≡ gives k → Accepted f y0 a × (k ≡ lengthFor (f .n))
+
+  pub judged-accepts : Says (judgedOf f y0 a)
+  unfolding judgedOf
+  judged-accepts =
+      either Says (ltb maxN (f .n)) (λ _ k e. refuses-nothing e)
+      (λ served. either Says (fitsOf f y0 a)
+      (λ fits k e. let passes = begun-passes _ k (beginsOf (jobOf f)) e in
+      (record { few = ltb-false _ _ served; fits = fits; begins = passes .0 }, passes .1))
+      (λ _ k e. refuses-nothing e))
+
+  pub accepted-judged : Accepted f y0 a → judgedOf f y0 a ≡ gives (lengthFor (f .n))
+  unfolding judgedOf
+  accepted-judged h = when-false _ _ (le-ltb _ _ (h .few)) ∙ when-true _ _ (h .fits) ∙ ap (begunOf (lengthFor (f .n))) (h .begins)

@@ -1,0 +1,199 @@
+-- The writer and the reader, for every input (02 §7): reading what was written returns the same bits, writing what was read returns the same
+-- bytes, and the writer accepts exactly what the reader accepts as a job.
+--
+-- It holds since forms that fit and files that are accepted are one to one (`PackedLaws`), and since both go by the beginning's own checks
+-- (`BeginningLaws`). Numbers travel as their 64 bits: no payload of a NaN is lost, and there is no exception.
+use mathlib.Core.Path.{_≡_, refl, sym, ap, _∙_}
+use mathlib.Core.List.{List, [], _∷_, _++_, map, append-nil}
+use Prim.Native.Nat.{ℕ, zero, suc, _+_, _*_, _≤_, _<_}
+use native.Mathlib.Omega.{arith}
+use lib.Dec.{ltb}
+use lib.ListN.{length, take, drop, replicate, length-append, length-drop, length-replicate}
+use lib.Seq.{take-at, drop-at}
+use lib.Ieee.{Float}
+use borrow.Author.Tests.{lt-ltb, le-ltb, ltb-false}
+use Rattle.loops.specs.Arithmetic.{+0}
+use Rattle.loops.specs.Refusal.{Outcome, gives, refuses}
+use Rattle.loops.specs.laws.ChoiceLaws.{either, when-true, when-false}
+use Rattle.text.specs.Words.{bytesOf, Below}
+use Rattle.rules.specs.Places.{need}
+use Rattle.job.specs.declared.form.Form.{Form}
+use Rattle.job.specs.Types.{Passed, maxN}
+use Rattle.job.specs.Packed.{wordsOf, valueOf, lengthFor}
+use Rattle.job.specs.Reading.{FormOutcome, formRead, formPlaced, readFormOf, jobOf}
+use Rattle.job.specs.Writing.{packedOf, fitsOf, beginsOf, judgedOf, WriteOutcome, writtenOver, writeOf}
+use Rattle.job.specs.JobFile.{Reads, Begins, JobFile, OfWords}
+use Rattle.job.specs.laws.ReadingLaws.{values-long}
+use Rattle.job.specs.laws.FitLaws.{Fits, fits-test, test-fits}
+use Rattle.job.specs.laws.PackedLaws.{length-packed, packed-small, read-packed, y0-packed, a-packed, Found, packed-read}
+use Rattle.job.specs.laws.BeginningLaws.{passed-begins, begins-passed}
+use Rattle.job.specs.laws.JudgedLaws.{Accepted, judged-accepts, accepted-judged}
+
+-- ---- a form that fits is read from its bytes
+
+module _ (f : Form) (y0 a : List ℕ) (few : f .n ≤ maxN) (fits : Fits f y0 a) (words : OfWords f y0 a) where
+  packed-reads : Reads (packedOf f y0 a) f y0 a
+  unfolding readFormOf
+  packed-reads y b =
+      ap (λ (o : Outcome Form). formPlaced (packedOf f y0 a) o y b) (read-packed f y0 a few fits words)
+      ∙ rw (y0-packed f y0 a few fits words, a-packed f y0 a few fits words)
+
+-- ---- what a file reads as, by its parts
+
+record Held (s : List ℕ) (f : Form) (y0 a : List ℕ) : Type 0 where
+  form : formRead s ≡ gives f
+  state : wordsOf s 5 (f .n) ≡ y0
+  cells : wordsOf s (5 + f .n) (f .n * f .n) ≡ a
+
+nothing-after : (l : List ℕ) (n : ℕ) → l ++ drop n [] ≡ l
+nothing-after l zero = append-nil l
+nothing-after l (suc n) = append-nil l
+
+placed-held :
+    (s : List ℕ) (f : Form) (y0 a : List ℕ) (o : Outcome Form) → formRead s ≡ o →
+    formPlaced s o [] [] ≡ (gives f, y0 ++ drop (f .n) [], a ++ drop (f .n * f .n) []) → Held s f y0 a
+placed-held s f y0 a (gives g) is e =
+    let said = ap (λ (r : FormOutcome). r .0) e in
+    let same : g ≡ f = cc in
+    let first = ap (λ (r : FormOutcome). r .1) e in
+    let second = ap (λ (r : FormOutcome). r .2) e in
+    record {
+      form = rw same at is;
+      state = sym (nothing-after _ (f .n)) ∙ (rw same at first) ∙ nothing-after y0 (f .n);
+      cells = sym (nothing-after _ (f .n * f .n)) ∙ (rw same at second) ∙ nothing-after a (f .n * f .n);
+    }
+placed-held s f y0 a (refuses number) is e = let said = ap (λ (r : FormOutcome). r .0) e in let z : _≡_ {A = ℕ} 0 1 = cc in absurd (omega arith)
+
+reads-held : (s : List ℕ) (f : Form) (y0 a : List ℕ) → Reads s f y0 a → Held s f y0 a
+unfolding readFormOf
+reads-held s f y0 a reads = placed-held s f y0 a (formRead s) refl (reads [] [])
+
+reads-found : (s : List ℕ) (f : Form) (y0 a : List ℕ) → Below 256 s → Reads s f y0 a → Found s f y0 a
+reads-found s f y0 a bytes reads =
+    let h = reads-held s f y0 a reads in
+    let found = packed-read s bytes f (h .form) in
+    rw (h .state, h .cells) at found
+
+-- ---- one file for each form
+
+-- two files that read as the same form with the same y0 and A are the same bytes
+pub one-file : (s t : List ℕ) (f : Form) (y0 a : List ℕ) → Below 256 s → Below 256 t → Reads s f y0 a → Reads t f y0 a → s ≡ t
+one-file s t f y0 a p q d e = sym (reads-found s f y0 a p d .packed) ∙ reads-found t f y0 a q e .packed
+
+-- ---- what is read is what is accepted
+
+module _ (f : Form) (y0 a : List ℕ) where
+  -- enough room for the beginning
+  abbrev works : List Float
+  works = replicate (need (f .n)) +0
+
+  abbrev asks : List Float
+  asks = replicate (8 * f .n) +0
+
+  file-accepted : (s : List ℕ) → JobFile s f y0 a → Accepted f y0 a × (packedOf f y0 a ≡ s)
+  unfolding jobOf
+  file-accepted s h =
+      let found = reads-found s f y0 a (h .bytes) (h .reads) in
+      let long : length (map valueOf y0) ≡ f .n = values-long y0 ∙ found .fits .long in
+      let begins = h .begins works asks (omega (arith, length-replicate (need (f .n)) +0)) (omega (arith, length-replicate (8 * f .n) +0)) in (
+        record {
+          few = found .few;
+          fits = fits-test f y0 a (found .fits);
+          begins =
+              begins-passed (jobOf f) (map valueOf y0) works asks long (found .few) (omega (arith, length-replicate (need (f .n)) +0))
+              (omega (arith, length-replicate (8 * f .n) +0)) begins;
+        },
+        found .packed,
+      )
+
+  accepted-file : OfWords f y0 a → Accepted f y0 a → JobFile (packedOf f y0 a) f y0 a
+  unfolding jobOf
+  accepted-file words h =
+      let fits = test-fits f y0 a (h .fits) in
+      record {
+        bytes = packed-small f y0 a;
+        reads = packed-reads f y0 a (h .few) fits words;
+        begins = λ ws q w k. passed-begins (jobOf f) (map valueOf y0) ws q (values-long y0 ∙ fits .long) (h .few) w k (h .begins);
+      }
+
+  accepted-length : Accepted f y0 a → OfWords f y0 a → length (packedOf f y0 a) ≡ lengthFor (f .n)
+  accepted-length h words = length-packed f y0 a (h .few) (test-fits f y0 a (h .fits)) words
+
+-- ---- writing what was read
+
+module _ (s : List ℕ) (f : Form) (y0 a out : List ℕ) (job : JobFile s f y0 a) where
+  judged-file : judgedOf f y0 a ≡ gives (length s)
+  judged-file =
+      let h = file-accepted f y0 a s job in
+      let found = reads-found s f y0 a (job .bytes) (job .reads) in
+      accepted-judged f y0 a (h .0) ∙ ap gives (sym (accepted-length f y0 a (h .0) (found .words)) ∙ ap length (h .1))
+
+  -- the same bytes, and what lies after them stays
+  pub read-is-written : length s ≤ length out → writeOf f y0 a out ≡ (gives (length s), s ++ drop (length s) out)
+  unfolding writeOf
+  read-is-written room = rw (judged-file, file-accepted f y0 a s job .1) (when-false _ _ (le-ltb _ _ room))
+
+  -- nothing, and 25, where the slice is short
+  pub read-has-no-room : length out < length s → writeOf f y0 a out ≡ (refuses 25, out)
+  unfolding writeOf
+  read-has-no-room short = rw judged-file (when-true _ _ (lt-ltb _ _ short))
+
+-- ---- reading what was written
+
+-- an outcome that writes k bytes: they are a job, the form with y0 and A, and what lies after them stays
+abbrev pub WritesJob : Form → List ℕ → List ℕ → List ℕ → WriteOutcome → Type 0
+WritesJob f y0 a out r =
+    (k : ℕ) → r .0 ≡ gives k → JobFile (take k (r .1)) f y0 a × (drop k (r .1) ≡ drop k out) × (length (r .1) ≡ length out)
+
+module _ (f : Form) (y0 a out : List ℕ) (words : OfWords f y0 a) where
+  refusal-writes : (number : ℕ) → WritesJob f y0 a out (refuses number, out)
+  refusal-writes number k e = let z : _≡_ {A = ℕ} 0 1 = cc in absurd (omega arith)
+
+  over-writes : (o : Outcome ℕ) → judgedOf f y0 a ≡ o → WritesJob f y0 a out (writtenOver (packedOf f y0 a) o out)
+  over-writes (refuses number) is = refusal-writes number
+  over-writes (gives long) is =
+      either (WritesJob f y0 a out) (ltb (length out) long) (λ _. refusal-writes 25)
+      (λ room k e.
+      let accepted = judged-accepts f y0 a long is in
+      let size : length (packedOf f y0 a) ≡ long = accepted-length f y0 a (accepted .0) words ∙ sym (accepted .1) in
+      let enough : long ≤ length out = ltb-false _ _ room in
+      let all : k ≡ long = cc in
+      rw all (
+        rw (take-at (packedOf f y0 a) (drop long out) long size) (accepted-file f y0 a words (accepted .0)),
+        drop-at (packedOf f y0 a) (drop long out) long size,
+        simp (length-append, length-drop) (omega arith),
+      ))
+
+  pub written-is-read : WritesJob f y0 a out (writeOf f y0 a out)
+  unfolding writeOf
+  written-is-read = over-writes (judgedOf f y0 a) refl
+
+-- ---- the writer accepts exactly what the reader accepts as a job
+
+-- in some slice it is written; some file reads as it, and begins
+abbrev pub IsWritten : Form → List ℕ → List ℕ → Type 0
+IsWritten f y0 a = (out : List ℕ) × ((k : ℕ) × (writeOf f y0 a out .0 ≡ gives k))
+
+abbrev pub IsRead : Form → List ℕ → List ℕ → Type 0
+IsRead f y0 a = (s : List ℕ) × JobFile s f y0 a
+
+module _ (f : Form) (y0 a : List ℕ) where
+  pub what-is-written-is-read : OfWords f y0 a → IsWritten f y0 a → IsRead f y0 a
+  what-is-written-is-read words w = (take (w .1 .0) (writeOf f y0 a (w .0) .1), written-is-read f y0 a (w .0) words (w .1 .0) (w .1 .1) .0)
+
+  pub what-is-read-is-written : IsRead f y0 a → IsWritten f y0 a
+  what-is-read-is-written r = (r .0, (length (r .0), ap (λ (o : WriteOutcome). o .0) (read-is-written (r .0) f y0 a (r .0) (r .1) (omega arith))))
+
+-- ---- a refusal writes nothing
+
+pub refusal-writes-nothing : (f : Form) (y0 a out : List ℕ) (number : ℕ) → writeOf f y0 a out .0 ≡ refuses number → writeOf f y0 a out .1 ≡ out
+unfolding writeOf
+refusal-writes-nothing f y0 a out = over-nothing (judgedOf f y0 a)
+  where
+    Nothing : WriteOutcome → Type 0
+    Nothing r = (number : ℕ) → r .0 ≡ refuses number → r .1 ≡ out
+
+    over-nothing : (o : Outcome ℕ) → Nothing (writtenOver (packedOf f y0 a) o out)
+    over-nothing (refuses number) = λ k e. refl
+    over-nothing (gives long) =
+        either Nothing (ltb (length out) long) (λ _ k e. refl) (λ _ k e. let z : _≡_ {A = ℕ} 0 1 = cc in absurd (omega arith))
