@@ -44,10 +44,11 @@ packedOf f y0 a = bytesOf headLength (headFor f) ++ joined (wordsIn f y0 a)
 
 -- ---- what is accepted
 
--- 17 unless y0 and A have their lengths, each limit fits its field, and a first_step that is not used has only zero bits
-unfoldable pub fitsOf : Form → List ℕ → List ℕ → Bool
-fitsOf f y0 a =
-    eqb (length y0) (f .n) && (eqb (length a) (f .n * f .n) && (ltb (f .«max_steps») (2 ^ 20) && (ltb (f .«newton_maxiter») (2 ^ 7) && (not (f .automatic) || eqb (f .«first_step») 0))))
+-- 17 unless y0 of `places` words and A of `cells` have their lengths, each limit fits its field, and a first_step that is not used has
+-- only zero bits
+unfoldable pub fitsOf : Form → ℕ → ℕ → Bool
+fitsOf f places cells =
+    eqb places (f .n) && (eqb cells (f .n * f .n) && (ltb (f .«max_steps») (2 ^ 20) && (ltb (f .«newton_maxiter») (2 ^ 7) && (not (f .automatic) || eqb (f .«first_step») 0))))
 
 -- 5 to 8: the beginning's own checks of a job's numbers. (4 is among them, and cannot be: each tolerance is one number.) With no
 -- component a beginning ends at once
@@ -61,10 +62,10 @@ begunOf long Passed = gives long
 begunOf long (Refuse why) = refuses (numberOf why)
 
 -- how many bytes the job has, or why it is none
-unfoldable pub judgedOf : Form → List ℕ → List ℕ → Outcome ℕ
-judgedOf f y0 a =
+unfoldable pub judgedOf : Form → ℕ → ℕ → Outcome ℕ
+judgedOf f places cells =
     if ltb maxN (f .n) then refuses 1
-    else if fitsOf f y0 a then begunOf (lengthFor (f .n)) (beginsOf (jobOf f))
+    else if fitsOf f places cells then begunOf (lengthFor (f .n)) (beginsOf (jobOf f))
     else refuses 17
 
 -- ---- the whole
@@ -84,4 +85,4 @@ writtenOver job (gives long) out = if ltb (length out) long then (refuses 25, ou
 writtenOver job (refuses number) out = (refuses number, out)
 
 unfoldable pub writeOf : Form → List ℕ → List ℕ → List ℕ → WriteOutcome
-writeOf f y0 a out = writtenOver (packedOf f y0 a) (judgedOf f y0 a) out
+writeOf f y0 a out = writtenOver (packedOf f y0 a) (judgedOf f (length y0) (length a)) out

@@ -9,7 +9,6 @@ ghost use Rattle.job.specs.Types.{maxN};
 ghost use Rattle.job.specs.Packed.{lengthFor};
 ghost use Rattle.job.specs.Reading.{jobOf};
 ghost use Rattle.job.specs.Writing.{bit, headFor, joined, packedOf, fitsOf, beginsOf, begunOf, judgedOf, writingOf, writeOf};
-ghost use Rattle.job.specs.laws.BeginLaws.{zeroStart};
 use crate::form::Form;
 use crate::form::NO_JOB;
 use crate::form::TOO_MANY_COMPONENTS;
@@ -41,7 +40,7 @@ pub enum Writing {
 pub fn write(f: Form, y0: &[u64], a: &[u64], out: &mut [u8]) -> Writing
     ensures { λ r. ⌜ (writingOf r, now (out .exit)) ≡ writeOf f (now (y0 .entry)) (now (a .entry)) (now (out .entry)) ⌝ }
 {
-    match judged(f, y0, a) {
+    match judged(f, y0.len(), a.len()) {
         Writing::Written(long) => {
             if out.len() < long {
                 return Writing::Refused(SLICE_SHORT);
@@ -53,14 +52,15 @@ pub fn write(f: Form, y0: &[u64], a: &[u64], out: &mut [u8]) -> Writing
     }
 }
 
-// What a form comes to where the slice is long enough: how many bytes the job has, or why it is none.
-fn judged(f: Form, y0: &[u64], a: &[u64]) -> Writing
-    ensures { λ r. ⌜ writingOf r ≡ judgedOf f (now (y0 .entry)) (now (a .entry)) ⌝ }
+// What a form comes to beside y0 of `places` words and A of `cells`, where the slice is long enough: how many bytes the job has, or why
+// it is none.
+fn judged(f: Form, places: usize, cells: usize) -> Writing
+    ensures { λ r. ⌜ writingOf r ≡ judgedOf f places cells ⌝ }
 {
     if MAX_N < f.n {
         return Writing::Refused(TOO_MANY_COMPONENTS);
     }
-    if !fits(f, y0, a) {
+    if !fits(f, places, cells) {
         return Writing::Refused(NO_JOB);
     }
     let n = f.n;
@@ -68,15 +68,15 @@ fn judged(f: Form, y0: &[u64], a: &[u64]) -> Writing
 }
 
 // Whether y0 and A have their lengths, each limit fits its field, and a first_step that is not used has only zero bits.
-fn fits(f: Form, y0: &[u64], a: &[u64]) -> bool
+fn fits(f: Form, places: usize, cells: usize) -> bool
     requires { ⌜ f .n ≤ maxN ⌝ }
-    ensures { λ r. ⌜ r ≡ fitsOf f (now (y0 .entry)) (now (a .entry)) ⌝ }
+    ensures { λ r. ⌜ r ≡ fitsOf f places cells ⌝ }
 {
     let n = f.n;
-    if y0.len() != n {
+    if places != n {
         return false;
     }
-    if a.len() != n * n {
+    if cells != n * n {
         return false;
     }
     if 0x10_0000 <= f.max_steps {
@@ -114,25 +114,18 @@ fn begun(f: Form, long: usize) -> Writing
     if 64 < f.newton_maxiter {
         return Writing::Refused(LIMIT_TOO_LARGE);
     }
-    if starts_at_zero(f) {
+    if f.automatic {
+        return Writing::Written(long);
+    }
+    if text::double(f.first_step) == 0.0 {
         return Writing::Refused(ZERO_FIRST_STEP);
     }
     Writing::Written(long)
 }
 
-// Whether a first_step that is used is +0 or -0.
-fn starts_at_zero(f: Form) -> bool
-    ensures { λ r. ⌜ r ≡ zeroStart f ⌝ }
-{
-    if f.automatic {
-        return false;
-    }
-    text::double(f.first_step) == 0.0
-}
-
 // The head, the five words behind it, y0 and A, one after another.
 fn pack(f: Form, y0: &[u64], a: &[u64], out: &mut [u8])
-    requires { ⌜ (f .n ≤ maxN) × ((fitsOf f (now y0) (now a) ≡ true) × (lengthFor (f .n) ≤ length (now out))) ⌝ }
+    requires { ⌜ (f .n ≤ maxN) × ((fitsOf f (length (now y0)) (length (now a)) ≡ true) × (lengthFor (f .n) ≤ length (now out))) ⌝ }
     ensures { λ _. ⌜ now (out .exit) ≡ packedOf f (now (y0 .entry)) (now (a .entry)) ++ drop (lengthFor (f .n)) (now (out .entry)) ⌝ }
 {
     let n = f.n;

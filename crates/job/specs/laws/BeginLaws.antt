@@ -22,10 +22,6 @@ use Rattle.job.specs.Packed.{valueOf}
 use Rattle.job.specs.Reading.{firstStepOf, jobOf, settingsOf}
 use Rattle.job.specs.Writing.{beginsOf, begunOf}
 
--- a first_step that is used, and is +0 or -0
-unfoldable pub zeroStart : Form → Bool
-zeroStart f = if f .automatic then false else Ieee.eq (valueOf (f .«first_step»)) +0
-
 -- ---- the tests, last ones first
 
 given-begun : (long : ℕ) (h direction : Float) → (if Ieee.eq h +0 then refuses 8 else gives long) ≡ begunOf long (zeroStep (Given h) direction)
@@ -34,7 +30,7 @@ given-begun long h direction = through (begunOf long) refl (λ _. refl) (λ _. r
 
 zero-start-begun :
     (long : ℕ) (automatic : Bool) (h direction : Float) →
-    (if (if automatic then false else Ieee.eq h +0) then refuses 8 else gives long) ≡ begunOf long (zeroStep (if automatic then Unset else Given h) direction)
+    (if automatic then gives long else if Ieee.eq h +0 then refuses 8 else gives long) ≡ begunOf long (zeroStep (if automatic then Unset else Given h) direction)
 unfolding if_then_else_
 zero-start-begun long true h direction = refl
 zero-start-begun long false h direction = given-begun long h direction
@@ -70,12 +66,12 @@ module _ (f : Form) (long : ℕ) where
       else if Ieee.lt (valueOf (f .atol)) +0 then refuses 5
       else if eqb (f .«max_steps») 0 then refuses 6
       else if (ltb 1000000 (f .«max_steps») || ltb 64 (f .«newton_maxiter»)) then refuses 7
-      else if zeroStart f then refuses 8
+      else if f .automatic then gives long
+      else if Ieee.eq (valueOf (f .«first_step»)) +0 then refuses 8
       else gives long) ≡
       begunOf long (beginsOf (jobOf f))
-  unfolding beginsOf jobOf firstStepOf zeroStart tolerancesChecked limited numberOf
+  unfolding beginsOf jobOf firstStepOf tolerancesChecked limited numberOf
   begun-by-tests some =
-      let job = jobOf f in
       let direction : Float = signumOf (valueOf (f .xend) ⊖ valueOf (f .x0)) in
       negative-begun long (valueOf (f .rtol)) (valueOf (f .atol)) (f .n) (limited (settingsOf (jobOf f)) direction) some
       (through (begunOf long) refl (λ _. refl) (λ _. through (begunOf long) refl (λ _. refl) (λ _. zero-start-begun long (f .automatic) (valueOf (f .«first_step»)) direction)))

@@ -1,7 +1,6 @@
 -- What a form has that is accepted, test by test of `judgedOf`, and back.
 use mathlib.Core.Path.{_≡_, refl, sym, ap, _∙_}
 use mathlib.Core.Bool.{true}
-use mathlib.Core.List.{List}
 use Prim.Native.Nat.{ℕ, _≤_}
 use native.Mathlib.Omega.{arith}
 use lib.Dec.{ltb}
@@ -14,9 +13,9 @@ use Rattle.job.specs.Packed.{lengthFor}
 use Rattle.job.specs.Reading.{jobOf}
 use Rattle.job.specs.Writing.{fitsOf, beginsOf, begunOf, judgedOf}
 
-pub record Accepted (f : Form) (y0 a : List ℕ) : Type 0 where
+pub record Accepted (f : Form) (places cells : ℕ) : Type 0 where
   pub few : f .n ≤ maxN
-  pub fits : fitsOf f y0 a ≡ true
+  pub fits : fitsOf f places cells ≡ true
   pub begins : beginsOf (jobOf f) ≡ Passed
 
 -- a refusal gives nothing
@@ -27,20 +26,20 @@ begun-passes : (long k : ℕ) (check : Check) → begunOf long check ≡ gives k
 begun-passes long k Passed e = (refl, cc)
 begun-passes long k (Refuse why) e = refuses-nothing e
 
-module _ (f : Form) (y0 a : List ℕ) where
+module _ (f : Form) (places cells : ℕ) where
   -- what an outcome of `judgedOf` says where it gives a length
   abbrev Says : Outcome ℕ → Type 0
-  Says r = (k : ℕ) → r ≡ gives k → Accepted f y0 a × (k ≡ lengthFor (f .n))
+  Says r = (k : ℕ) → r ≡ gives k → Accepted f places cells × (k ≡ lengthFor (f .n))
 
-  pub judged-accepts : Says (judgedOf f y0 a)
+  pub judged-accepts : Says (judgedOf f places cells)
   unfolding judgedOf
   judged-accepts =
       either Says (ltb maxN (f .n)) (λ _ k e. refuses-nothing e)
-      (λ served. either Says (fitsOf f y0 a)
+      (λ served. either Says (fitsOf f places cells)
       (λ fits k e. let passes = begun-passes _ k (beginsOf (jobOf f)) e in
       (record { few = ltb-false _ _ served; fits = fits; begins = passes .0 }, passes .1))
       (λ _ k e. refuses-nothing e))
 
-  pub accepted-judged : Accepted f y0 a → judgedOf f y0 a ≡ gives (lengthFor (f .n))
+  pub accepted-judged : Accepted f places cells → judgedOf f places cells ≡ gives (lengthFor (f .n))
   unfolding judgedOf
   accepted-judged h = when-false _ _ (le-ltb _ _ (h .few)) ∙ when-true _ _ (h .fits) ∙ ap (begunOf (lengthFor (f .n))) (h .begins)

@@ -36,7 +36,7 @@ not-not false = refl
 
 -- ---- read what was written
 
-module _ (f : Form) (y0 a : List ℕ) (few : f .n ≤ maxN) (fits : Fits f y0 a) (words : Below (2 ^ 64) (wordsIn f y0 a)) where
+module _ (f : Form) (y0 a : List ℕ) (few : f .n ≤ maxN) (fits : Fits f (length y0) (length a)) (words : Below (2 ^ 64) (wordsIn f y0 a)) where
   length-in : length (wordsIn f y0 a) ≡ 5 + f .n + f .n * f .n
   length-in = omega (arith, length-append y0 a, fits .long, fits .square)
 
@@ -135,7 +135,7 @@ module _ (s : List ℕ) (bytes : Below 256 s) (w : ℕ) (is : w ≡ headBits s) 
       ∙ take-all (8 * (5 + field w 34 6 + field w 34 6 * field w 34 6)) (drop 5 s) (rw length-drop (omega (arith, accepts-read .0))) in
       rw (head-read, words-read, head, rest) (take-append-drop 5 s)
 
-  fits-read : Fits (formOf s (headOf w)) (wordsOf s 5 (field w 34 6)) (wordsOf s (5 + field w 34 6) (field w 34 6 * field w 34 6))
+  fits-read : Fits (formOf s (headOf w)) (length (wordsOf s 5 (field w 34 6))) (length (wordsOf s (5 + field w 34 6) (field w 34 6 * field w 34 6)))
   unfolding formOf
   fits-read =
       record {
@@ -154,7 +154,7 @@ module _ (s : List ℕ) (bytes : Below 256 s) (w : ℕ) (is : w ≡ headBits s) 
 -- what was read of s: it fits, it is made of words, and its bytes are s
 pub record Found (s : List ℕ) (f : Form) (y0 a : List ℕ) : Type 0 where
   pub few : f .n ≤ maxN
-  pub fits : Fits f y0 a
+  pub fits : Fits f (length y0) (length a)
   pub words : Below (2 ^ 64) (wordsIn f y0 a)
   pub packed : packedOf f y0 a ≡ s
 

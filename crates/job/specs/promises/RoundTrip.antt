@@ -31,7 +31,7 @@ use Rattle.job.specs.laws.JudgedLaws.{Accepted, judged-accepts, accepted
 
 -- ---- a form that fits is read from its bytes
 
-module _ (f : Form) (y0 a : List ℕ) (few : f .n ≤ maxN) (fits : Fits f y0 a) (words : OfWords f y0 a) where
+module _ (f : Form) (y0 a : List ℕ) (few : f .n ≤ maxN) (fits : Fits f (length y0) (length a)) (words : OfWords f y0 a) where
   packed-reads : Reads (packedOf f y0 a) f y0 a
   unfolding readFormOf
   packed-reads y b =
@@ -90,7 +90,7 @@ module _ (f : Form) (y0 a : List ℕ) where
   abbrev asks : List Float
   asks = replicate (8 * f .n) +0
 
-  file-accepted : (s : List ℕ) → JobFile s f y0 a → Accepted f y0 a × (packedOf f y0 a ≡ s)
+  file-accepted : (s : List ℕ) → JobFile s f y0 a → Accepted f (length y0) (length a) × (packedOf f y0 a ≡ s)
   unfolding jobOf
   file-accepted s h =
       let found = reads-found s f y0 a (h .bytes) (h .reads) in
@@ -98,7 +98,7 @@ module _ (f : Form) (y0 a : List ℕ) where
       let begins = h .begins works asks (omega (arith, length-replicate (need (f .n)) +0)) (omega (arith, length-replicate (8 * f .n) +0)) in (
         record {
           few = found .few;
-          fits = fits-test f y0 a (found .fits);
+          fits = fits-test f (length y0) (length a) (found .fits);
           begins =
               begins-passed (jobOf f) (map valueOf y0) works asks long (found .few) (omega (arith, length-replicate (need (f .n)) +0))
               (omega (arith, length-replicate (8 * f .n) +0)) begins;
@@ -106,27 +106,27 @@ module _ (f : Form) (y0 a : List ℕ) where
         found .packed,
       )
 
-  accepted-file : OfWords f y0 a → Accepted f y0 a → JobFile (packedOf f y0 a) f y0 a
+  accepted-file : OfWords f y0 a → Accepted f (length y0) (length a) → JobFile (packedOf f y0 a) f y0 a
   unfolding jobOf
   accepted-file words h =
-      let fits = test-fits f y0 a (h .fits) in
+      let fits = test-fits f (length y0) (length a) (h .fits) in
       record {
         bytes = packed-small f y0 a;
         reads = packed-reads f y0 a (h .few) fits words;
         begins = λ ws q w k. passed-begins (jobOf f) (map valueOf y0) ws q (values-long y0 ∙ fits .long) (h .few) w k (h .begins);
       }
 
-  accepted-length : Accepted f y0 a → OfWords f y0 a → length (packedOf f y0 a) ≡ lengthFor (f .n)
-  accepted-length h words = length-packed f y0 a (h .few) (test-fits f y0 a (h .fits)) words
+  accepted-length : Accepted f (length y0) (length a) → OfWords f y0 a → length (packedOf f y0 a) ≡ lengthFor (f .n)
+  accepted-length h words = length-packed f y0 a (h .few) (test-fits f (length y0) (length a) (h .fits)) words
 
 -- ---- writing what was read
 
 module _ (s : List ℕ) (f : Form) (y0 a out : List ℕ) (job : JobFile s f y0 a) where
-  judged-file : judgedOf f y0 a ≡ gives (length s)
+  judged-file : judgedOf f (length y0) (length a) ≡ gives (length s)
   judged-file =
       let h = file-accepted f y0 a s job in
       let found = reads-found s f y0 a (job .bytes) (job .reads) in
-      accepted-judged f y0 a (h .0) ∙ ap gives (sym (accepted-length f y0 a (h .0) (found .words)) ∙ ap length (h .1))
+      accepted-judged f (length y0) (length a) (h .0) ∙ ap gives (sym (accepted-length f y0 a (h .0) (found .words)) ∙ ap length (h .1))
 
   -- the same bytes, and what lies after them stays
   pub read-is-written : length s ≤ length out → writeOf f y0 a out ≡ (gives (length s), s ++ drop (length s) out)
@@ -149,12 +149,12 @@ module _ (f : Form) (y0 a out : List ℕ) (words : OfWords f y0 a) where
   refusal-writes : (number : ℕ) → WritesJob f y0 a out (refuses number, out)
   refusal-writes number k e = let z : _≡_ {A = ℕ} 0 1 = cc in absurd (omega arith)
 
-  over-writes : (o : Outcome ℕ) → judgedOf f y0 a ≡ o → WritesJob f y0 a out (writtenOver (packedOf f y0 a) o out)
+  over-writes : (o : Outcome ℕ) → judgedOf f (length y0) (length a) ≡ o → WritesJob f y0 a out (writtenOver (packedOf f y0 a) o out)
   over-writes (refuses number) is = refusal-writes number
   over-writes (gives long) is =
       either (WritesJob f y0 a out) (ltb (length out) long) (λ _. refusal-writes 25)
       (λ room k e.
-      let accepted = judged-accepts f y0 a long is in
+      let accepted = judged-accepts f (length y0) (length a) long is in
       let size : length (packedOf f y0 a) ≡ long = accepted-length f y0 a (accepted .0) words ∙ sym (accepted .1) in
       let enough : long ≤ length out = ltb-false _ _ room in
       let all : k ≡ long = cc in
@@ -166,7 +166,7 @@ module _ (f : Form) (y0 a out : List ℕ) (words : OfWords f y0 a) where
 
   pub written-is-read : WritesJob f y0 a out (writeOf f y0 a out)
   unfolding writeOf
-  written-is-read = over-writes (judgedOf f y0 a) refl
+  written-is-read = over-writes (judgedOf f (length y0) (length a)) refl
 
 -- ---- the writer accepts exactly what the reader accepts as a job
 
@@ -188,7 +188,7 @@ module _ (f : Form) (y0 a : List ℕ) where
 
 pub refusal-writes-nothing : (f : Form) (y0 a out : List ℕ) (number : ℕ) → writeOf f y0 a out .0 ≡ refuses number → writeOf f y0 a out .1 ≡ out
 unfolding writeOf
-refusal-writes-nothing f y0 a out = over-nothing (judgedOf f y0 a)
+refusal-writes-nothing f y0 a out = over-nothing (judgedOf f (length y0) (length a))
   where
     Nothing : WriteOutcome → Type 0
     Nothing r = (number : ℕ) → r .0 ≡ refuses number → r .1 ≡ out

@@ -77,22 +77,22 @@ nan-keeps-its-bits = refl
 
 pub record Judged : Type 0 where
   -- more components than are served come first, whatever else is wrong
-  pub thirty-three : judgedOf (form 33 0x10_0000 0x80 true 1 half) [] [] ≡ refuses 1
+  pub thirty-three : judgedOf (form 33 0x10_0000 0x80 true 1 half) 0 0 ≡ refuses 1
   -- with no component the beginning's own are not checked; the fields are
-  pub nothing-to-check : judgedOf (form 0 0 127 false 0 0xBFF0_0000_0000_0000) [] [] ≡ gives 45
-  pub steps-too-wide : judgedOf (form 0 0x10_0000 4 false half milli) [] [] ≡ refuses 17
-  pub newton-too-wide : judgedOf (form 0 1 0x80 false half milli) [] [] ≡ refuses 17
+  pub nothing-to-check : judgedOf (form 0 0 127 false 0 0xBFF0_0000_0000_0000) 0 0 ≡ gives 45
+  pub steps-too-wide : judgedOf (form 0 0x10_0000 4 false half milli) 0 0 ≡ refuses 17
+  pub newton-too-wide : judgedOf (form 0 1 0x80 false half milli) 0 0 ≡ refuses 17
   -- a first_step that is not used: -0 is not taken for zero bits
-  pub unused-minus-zero : judgedOf (form 0 1 4 true 0x8000_0000_0000_0000 milli) [] [] ≡ refuses 17
+  pub unused-minus-zero : judgedOf (form 0 1 4 true 0x8000_0000_0000_0000 milli) 0 0 ≡ refuses 17
   -- y0 and A of a wrong length, before a tolerance below 0
-  pub no-state : judgedOf (form 1 1 4 true 0 0xBFF0_0000_0000_0000) [] (0 ∷ []) ≡ refuses 17
-  pub no-matrix : judgedOf (form 1 1 4 true 0 0xBFF0_0000_0000_0000) (one ∷ []) [] ≡ refuses 17
+  pub no-state : judgedOf (form 1 1 4 true 0 0xBFF0_0000_0000_0000) 0 1 ≡ refuses 17
+  pub no-matrix : judgedOf (form 1 1 4 true 0 0xBFF0_0000_0000_0000) 1 0 ≡ refuses 17
   -- 5 to 8, each before the next; a tolerance of -0 or NaN is not below 0
-  pub negative-tolerance : judgedOf (form 1 0 65 false 0 0xBFF0_0000_0000_0000) (one ∷ []) (0 ∷ []) ≡ refuses 5
-  pub no-steps : judgedOf (form 1 0 65 false 0 0x8000_0000_0000_0000) (one ∷ []) (0 ∷ []) ≡ refuses 6
-  pub newton-above-64 : judgedOf (form 1 1 65 false 0 0xFFF8_0000_0000_0000) (one ∷ []) (0 ∷ []) ≡ refuses 7
-  pub steps-above-a-million : judgedOf (form 1 1000001 64 false 0 milli) (one ∷ []) (0 ∷ []) ≡ refuses 7
-  pub first-step-minus-zero : judgedOf (form 1 1000000 64 false 0x8000_0000_0000_0000 milli) (one ∷ []) (0 ∷ []) ≡ refuses 8
+  pub negative-tolerance : judgedOf (form 1 0 65 false 0 0xBFF0_0000_0000_0000) 1 1 ≡ refuses 5
+  pub no-steps : judgedOf (form 1 0 65 false 0 0x8000_0000_0000_0000) 1 1 ≡ refuses 6
+  pub newton-above-64 : judgedOf (form 1 1 65 false 0 0xFFF8_0000_0000_0000) 1 1 ≡ refuses 7
+  pub steps-above-a-million : judgedOf (form 1 1000001 64 false 0 milli) 1 1 ≡ refuses 7
+  pub first-step-minus-zero : judgedOf (form 1 1000000 64 false 0x8000_0000_0000_0000 milli) 1 1 ≡ refuses 8
   -- and 25 after all of them
   pub short : writeOf (form 1 1 4 true 0 milli) (one ∷ []) (0 ∷ []) (7 ∷ []) ≡ (refuses 25, 7 ∷ [])
   pub short-and-negative : writeOf (form 1 1 4 true 0 0xBFF0_0000_0000_0000) (one ∷ []) (0 ∷ []) (7 ∷ []) ≡ (refuses 5, 7 ∷ [])

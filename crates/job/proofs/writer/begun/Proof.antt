@@ -16,7 +16,7 @@ use Rattle.job.specs.declared.form.Form.{Form}
 use Rattle.job.specs.Packed.{valueOf}
 use Rattle.job.specs.Reading.{jobOf}
 use Rattle.job.specs.Writing.{beginsOf, begunOf}
-use Rattle.job.specs.laws.BeginLaws.{zeroStart, begun-of-nothing, begun-by-tests}
+use Rattle.job.specs.laws.BeginLaws.{begun-of-nothing, begun-by-tests}
 use Rattle.job.proofs.writer.begun.Statement.{statement}
 use Rattle.job.proofs.writer.begun.Tie as tie
 
@@ -55,21 +55,28 @@ module _ (f : Form) (long : ℕ) (some : (f .n ≡ 0 → ⊥)) {r : Float} where
                 ∙ when-true _ _ (rw (le-ltb 1000000 (f .«max_steps») few, lt-ltb 64 (f .«newton_maxiter») h)))
                 ∙ begun-by-tests f long (positive _ some)
 
-            module _ (less : f .«newton_maxiter» ≤ 64) {z : Bool} (start : z ≡ zeroStart f) where
+            module _ (less : f .«newton_maxiter» ≤ 64) where
               limits : (ltb 1000000 (f .«max_steps») || ltb 64 (f .«newton_maxiter»)) ≡ false
               limits = rw (le-ltb 1000000 (f .«max_steps») few, le-ltb 64 (f .«newton_maxiter») less)
 
-              zero-first : z ≡ true → Answers f long (refuses 8)
-              zero-first t =
+              automatic : f .automatic ≡ true → Answers f long (gives long)
+              automatic t =
                   sym (when-false _ _ (rw (← is) p) ∙ when-false _ _ (rw (← also) q) ∙ when-false _ _ (ne-eqb _ _ steps) ∙ when-false _ _ limits
-                  ∙ when-true _ _ (sym start ∙ t))
+                  ∙ when-true _ _ t)
                   ∙ begun-by-tests f long (positive _ some)
 
-              passes : z ≡ false → Answers f long (gives long)
-              passes t =
-                  sym (when-false _ _ (rw (← is) p) ∙ when-false _ _ (rw (← also) q) ∙ when-false _ _ (ne-eqb _ _ steps) ∙ when-false _ _ limits
-                  ∙ when-false _ _ (sym start ∙ t))
-                  ∙ begun-by-tests f long (positive _ some)
+              module _ (given : f .automatic ≡ false) {h : Float} (first : h ≡ valueOf (f .«first_step»)) where
+                zero-first : Ieee.eq h +0 ≡ true → Answers f long (refuses 8)
+                zero-first t =
+                    sym (when-false _ _ (rw (← is) p) ∙ when-false _ _ (rw (← also) q) ∙ when-false _ _ (ne-eqb _ _ steps) ∙ when-false _ _ limits
+                    ∙ when-false _ _ given ∙ when-true _ _ (rw (← first) t))
+                    ∙ begun-by-tests f long (positive _ some)
+
+                passes : Ieee.eq h +0 ≡ false → Answers f long (gives long)
+                passes t =
+                    sym (when-false _ _ (rw (← is) p) ∙ when-false _ _ (rw (← also) q) ∙ when-false _ _ (ne-eqb _ _ steps) ∙ when-false _ _ limits
+                    ∙ when-false _ _ given ∙ when-false _ _ (rw (← first) t))
+                    ∙ begun-by-tests f long (positive _ some)
 
 returns : tie.Need-returns
 returns c = sym (begun-of-nothing _ _ (c .if1 .taken))
@@ -90,10 +97,13 @@ returns-6 : tie.Need-returns-6
 returns-6 c = many-turns _ _ (c .before .before .before .before .before .before .before .before .before .before .if1 .left) (c .before .before .before .before .before .before .before .before .before .double .ensures) (c .before .before .before .before .before .before .before .before .if2 .left) (c .before .before .before .before .before .before .before .double2 .ensures) (c .before .before .before .before .before .before .if3 .left) (c .before .before .before .before .if4 .left) (c .before .before .if5 .left) (c .if6 .taken)
 
 returns-7 : tie.Need-returns-7
-returns-7 c = zero-first _ _ (c .before .before .before .before .before .before .before .before .before .before .before .before .if1 .left) (c .before .before .before .before .before .before .before .before .before .before .before .double .ensures) (c .before .before .before .before .before .before .before .before .before .before .if2 .left) (c .before .before .before .before .before .before .before .before .before .double2 .ensures) (c .before .before .before .before .before .before .before .before .if3 .left) (c .before .before .before .before .before .before .if4 .left) (c .before .before .before .before .if5 .left) (c .before .before .if6 .left) (c .before .starts-at-zero .ensures) (c .if7 .taken)
+returns-7 c = automatic _ _ (c .before .before .before .before .before .before .before .before .before .before .before .if1 .left) (c .before .before .before .before .before .before .before .before .before .before .double .ensures) (c .before .before .before .before .before .before .before .before .before .if2 .left) (c .before .before .before .before .before .before .before .before .double2 .ensures) (c .before .before .before .before .before .before .before .if3 .left) (c .before .before .before .before .before .if4 .left) (c .before .before .before .if5 .left) (c .before .if6 .left) (c .if7 .taken)
 
 returns-8 : tie.Need-returns-8
-returns-8 c = passes _ _ (c .before .before .before .before .before .before .before .before .before .before .before .before .if1 .left) (c .before .before .before .before .before .before .before .before .before .before .before .double .ensures) (c .before .before .before .before .before .before .before .before .before .before .if2 .left) (c .before .before .before .before .before .before .before .before .before .double2 .ensures) (c .before .before .before .before .before .before .before .before .if3 .left) (c .before .before .before .before .before .before .if4 .left) (c .before .before .before .before .if5 .left) (c .before .before .if6 .left) (c .before .starts-at-zero .ensures) (c .if7 .left)
+returns-8 c = zero-first _ _ (c .before .before .before .before .before .before .before .before .before .before .before .before .before .if1 .left) (c .before .before .before .before .before .before .before .before .before .before .before .before .double .ensures) (c .before .before .before .before .before .before .before .before .before .before .before .if2 .left) (c .before .before .before .before .before .before .before .before .before .before .double2 .ensures) (c .before .before .before .before .before .before .before .before .before .if3 .left) (c .before .before .before .before .before .before .before .if4 .left) (c .before .before .before .before .before .if5 .left) (c .before .before .before .if6 .left) (c .before .before .if7 .left) (c .before .double3 .ensures) (c .if8 .taken)
+
+returns-9 : tie.Need-returns-9
+returns-9 c = passes _ _ (c .before .before .before .before .before .before .before .before .before .before .before .before .before .if1 .left) (c .before .before .before .before .before .before .before .before .before .before .before .before .double .ensures) (c .before .before .before .before .before .before .before .before .before .before .before .if2 .left) (c .before .before .before .before .before .before .before .before .before .before .double2 .ensures) (c .before .before .before .before .before .before .before .before .before .if3 .left) (c .before .before .before .before .before .before .before .if4 .left) (c .before .before .before .before .before .if5 .left) (c .before .before .before .if6 .left) (c .before .before .if7 .left) (c .before .double3 .ensures) (c .if8 .left)
 
 pub begun-spec : {M : Type 1} → statement M
 begun-spec =
@@ -107,6 +117,7 @@ begun-spec =
     returns-4
     returns-5
     returns-6
-    (λ c κs. search needs)
     returns-7
-    returns-8)
+    (λ c κs. search needs)
+    returns-8
+    returns-9)

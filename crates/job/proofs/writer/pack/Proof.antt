@@ -20,7 +20,7 @@ use Rattle.job.specs.laws.LaidLaws.{singles, laid-packed}
 use Rattle.job.proofs.writer.pack.Statement.{statement}
 use Rattle.job.proofs.writer.pack.Tie as tie
 
-module _ (f : Form) (y0 a out : List ℕ) (fits : fitsOf f y0 a ≡ true) (room : lengthFor (f .n) ≤ length out) where
+module _ (f : Form) (y0 a out : List ℕ) (fits : fitsOf f (length y0) (length a) ≡ true) (room : lengthFor (f .n) ≤ length out) where
   head-laid :
       {w : ℕ} {next : Place} {b : List ℕ} → w ≡ headFor f → _≡_ {A = Page} (next, b) (puts (bytesOf 5 w) (At 0, out)) →
       b ≡ laid (bytesOf 5 (headFor f)) 0 out
@@ -33,7 +33,7 @@ module _ (f : Form) (y0 a out : List ℕ) (fits : fitsOf f y0 a ≡ true) (room 
       c ≡ laid (joined (singles f)) 5 b → d ≡ laid (joined y0) (place 5) c → e ≡ laid (joined a) (place (5 + f .n)) d →
       e ≡ packedOf f y0 a ++ drop (lengthFor (f .n)) out
   job-laid v p q r t =
-      let s = test-fits f y0 a fits in
+      let s = test-fits f (length y0) (length a) fits in
       laid-packed f y0 a out _ _ _ _ (s .long) (s .square) room (head-laid v p) q r t
 
 head-for-requires : tie.Need-head-for-requires

@@ -17,7 +17,7 @@ use Rattle.job.specs.laws.JudgedLaws.{Accepted, judged-accepts}
 use Rattle.job.proofs.writer.write.Statement.{statement}
 use Rattle.job.proofs.writer.write.Tie as tie
 
-module _ (f : Form) (y0 a : List ℕ) {r : Writing} (is : writingOf r ≡ judgedOf f y0 a) where
+module _ (f : Form) (y0 a : List ℕ) {r : Writing} (is : writingOf r ≡ judgedOf f (length y0) (length a)) where
   -- by what the judgement said
   said : (out : List ℕ) {w : Writing} → r ≡ w → writtenOver (packedOf f y0 a) (writingOf w) out ≡ writeOf f y0 a out
   unfolding writeOf
@@ -27,8 +27,8 @@ module _ (f : Form) (y0 a : List ℕ) {r : Writing} (is : writingOf r ≡ judged
   refused number out e = said out e
 
   module _ (long : ℕ) (e : r ≡ Written long) where
-    accepted : Accepted f y0 a × (long ≡ lengthFor (f .n))
-    accepted = judged-accepts f y0 a long (sym is ∙ ap writingOf e)
+    accepted : Accepted f (length y0) (length a) × (long ≡ lengthFor (f .n))
+    accepted = judged-accepts f (length y0) (length a) long (sym is ∙ ap writingOf e)
 
     short : (out : List ℕ) → length out < long → _≡_ {A = WriteOutcome} (refuses 25, out) (writeOf f y0 a out)
     short out h = sym (when-true _ _ (lt-ltb _ _ h)) ∙ said out e
@@ -43,7 +43,7 @@ returns c = short _ _ _ (c .before .before .before .before .judged .ensures) _ (
 
 pack-requires : tie.Need-pack-requires
 pack-requires c κs =
-    let h = accepted _ _ _ (c .before .before .before .before .before .judged .ensures) _ (c .before .before .before .long .given .1) in
+    let h = accepted _ (c .before .before .before .before .before .before .before .before .before .args .y0 .now) (c .before .before .before .before .before .before .before .before .before .args .a .now) (c .before .before .before .before .before .judged .ensures) _ (c .before .before .before .long .given .1) in
     (h .0 .few, (h .0 .fits, rw (← h .1) (c .before .if1 .left)))
 
 returns-2 : tie.Need-returns-2
