@@ -48,7 +48,7 @@ def main(args):
 def make(text, to):
     if not to.endswith(".job"):
         raise packed.Wrong(f"{to}: a job file's name ends in .job")
-    data = packed.of_file(text).packed()
+    data = packed.to_save(packed.of_file(text), text)
     with open(to, "wb") as file:
         file.write(data)
     print(f"{to}: {len(data)} bytes")
