@@ -1,7 +1,7 @@
 #!/usr/bin/env python3
 """Jobs as text, packed, run and drawn. Wants Python 3.8 or later and nothing else.
 
-  job.py make TEXT JOB                    packs a text into a job file
+  job.py make TEXT|JOB JOB                packs a text into a job file, whole or not at all; what would be refused is not saved
   job.py show JOB                         shows a job file as text; packed again it is the same file
   job.py run PROGRAM TEXT|JOB [PICTURE]   runs it, says how it ended, prints a table, draws the picture (SVG)
   job.py read LINES TEXT|JOB [PICTURE]    the same for lines that the job program printed earlier
@@ -9,7 +9,9 @@
 A file whose name ends in .job is packed, any other is text. Exit status: 0 only where the run is finished (or the file was
 made or shown), 3 where it is not, 2 where something given is wrong.
 """
+import contextlib
 import os
+import secrets
 import shlex
 import subprocess
 import sys
@@ -45,14 +47,47 @@ def main(args):
     return WRONG
 
 
-def make(text, to):
+def make(source, to):
     if not to.endswith(".job"):
         raise packed.Wrong(f"{to}: a job file's name ends in .job")
-    data = packed.of_file(text).packed()
-    with open(to, "wb") as file:
-        file.write(data)
+    data = packed.to_save(packed.of_file(source), source)
+    try:
+        save(data, to)
+    except OSError as fault:
+        raise packed.Wrong(f"{to}: it was not saved: {fault.strerror or fault}")
     print(f"{to}: {len(data)} bytes")
     return FINISHED
+
+
+def save(data, path):
+    """Puts a file in its place whole: it is made beside it under another name, and renamed when all of it is on the disk. Until
+    then an older file stays as it was, and whatever goes wrong, nothing is left beside it.
+
+    A link stays a link: the file that it points to is the one that is replaced."""
+    to = os.path.realpath(path)
+    if os.path.lexists(to):
+        refuse_to_replace(to, path)
+    part = os.path.join(os.path.dirname(to), f".job-{secrets.token_hex(8)}.part")
+    file = open(part, "xb")  # never one that is already there
+    try:
+        with file:
+            file.write(data)
+            file.flush()
+            os.fsync(file.fileno())
+        os.replace(part, to)
+    except BaseException:
+        with contextlib.suppress(OSError):
+            os.remove(part)
+        raise
+
+
+def refuse_to_replace(to, path):
+    """A rename would also take the place of a device or of a file that was protected, which opening it would not."""
+    if not os.path.isfile(to):
+        what = "a folder" if os.path.isdir(to) else "something else than a file"
+        raise packed.Wrong(f"{path}: it was not saved: there is {what} of this name")
+    if not os.access(to, os.W_OK):
+        raise packed.Wrong(f"{path}: it was not saved: the file that is there is protected from being changed")
 
 
 def run(program, job):

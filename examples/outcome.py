@@ -128,7 +128,7 @@ def whole(outcome):
 
 def starts(job):
     """How many derivatives the start of a job takes: one where it finds the first step by itself."""
-    return 1 if job.first_step is None and job.n > 0 else 0
+    return 1 if job.automatic and job.n > 0 else 0
 
 
 def reached(outcome):

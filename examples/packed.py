@@ -1,12 +1,13 @@
-"""A job as readable text and as the packed bytes that the job program reads.
+"""A job as readable text, as a form, and as the packed bytes that the job program reads.
 
 Every number is kept as its 64 bits, never as a float that is written out again: so what is shown and packed once more is
-the same file, byte for byte.
+the same file, byte for byte. What may be saved goes by the rules of the proved writer, which `refusal` holds once.
 """
 import re
 import struct
 
 MAX_N, MAX_STEPS, MAX_NEWTON = 32, 1_000_000, 64
+STEPS_ROOM, NEWTON_ROOM = 1 << 20, 1 << 7  # from these on the two limits do not fit their 20 and 7 bits
 ZEROS = (0, 1 << 63)  # +0 and -0
 COUNTS = ("n", "max_steps", "newton_maxiter")
 DOUBLES = ("x0", "xend", "first_step", "rtol", "atol")
@@ -16,33 +17,100 @@ SPECIAL = {"infinity": 0x7FF0 << 48, "-infinity": 0xFFF0 << 48, "nan": 0x7FF8 <<
 
 
 class Wrong(Exception):
-    """What is wrong with a text or a file, in words for whoever wrote it."""
+    """What is wrong with a text or a file, in words for whoever wrote it. It has a number where a job is refused by that number,
+    and None where the mistake is one of the text alone."""
+
+    def __init__(self, sentence, number=None):
+        super().__init__(sentence)
+        self.number = number
 
 
-class Job:
-    """Counts as whole numbers, numbers as 64 bits; first_step is None for an automatic start."""
+class Form:
+    """Counts as whole numbers, numbers as 64 bits. Where the start is automatic, first_step is not used.
+
+    A form can say what no job says, such as an automatic start with a first_step beside it: `refusal` tells."""
 
     def __init__(self, fields):
         self.n, self.max_steps, self.newton_maxiter = (fields[word] for word in COUNTS)
         self.x0, self.xend, self.first_step, self.rtol, self.atol = (fields[word] for word in DOUBLES)
+        self.automatic = fields["automatic"]
         self.y0, self.a = fields["y0"], fields["A"]
         self.title = fields.get("title") or "a job"
         self.axis = fields.get("axis") or "x"
-        self.names = fields.get("names") or [f"y{i + 1}" for i in range(self.n)]
+        self.names = fields.get("names") or [f"y{i + 1}" for i in range(len(self.y0))]
 
     def packed(self):
-        automatic = self.first_step is None
-        head = self.n << 34 | self.max_steps << 14 | self.newton_maxiter << 7 | automatic << 6
-        doubles = [self.x0, self.xend, 0 if automatic else self.first_step, self.rtol, self.atol, *self.y0, *self.a]
+        """The bytes of the job file. A form that fits no file has none."""
+        found = unfit(self)
+        if found:
+            raise refused(self.title, found)
+        head = self.n << 34 | self.max_steps << 14 | self.newton_maxiter << 7 | self.automatic << 6
+        doubles = [self.x0, self.xend, self.first_step, self.rtol, self.atol, *self.y0, *self.a]
         return head.to_bytes(5, "big") + b"".join(bits.to_bytes(8, "big") for bits in doubles)
 
     def text(self):
-        first = "automatic" if self.first_step is None else written(self.first_step)
+        first = "automatic" if self.automatic else written(self.first_step)
         lines = [f"n {self.n}", f"max_steps {self.max_steps}", f"newton_maxiter {self.newton_maxiter}"]
         lines += [f"x0 {written(self.x0)}", f"xend {written(self.xend)}", f"first_step {first}"]
         lines += [f"rtol {written(self.rtol)}", f"atol {written(self.atol)}", row("y0", self.y0), "A"]
         lines += [row(" ", self.a[i * self.n : (i + 1) * self.n]) for i in range(self.n)]
         return "\n".join(lines) + "\n"
+
+
+def refusal(form):
+    """Why a form cannot be saved as a job: the number, the word that is at fault, and a sentence; None where it can be saved.
+
+    These are the rules of the proved writer, in its order. With no component a run ends at once, and 5 to 8 are not looked at."""
+    return unfit(form) or (unready(form) if form.n > 0 else None)
+
+
+def unfit(form):
+    """Numbers 1 and 17: what no job file says."""
+    n = form.n
+    if n > MAX_N:
+        return 1, "n", f"n is {n}, above {MAX_N}"
+    if len(form.y0) != n:
+        return 17, "y0", f"y0 has {len(form.y0)} numbers, but n is {n}"
+    if len(form.a) != n * n:
+        return 17, "A", f"A has {len(form.a)} numbers, but n is {n}, which wants {n * n}"
+    if form.max_steps >= STEPS_ROOM:
+        return 17, "max_steps", f"max_steps is {form.max_steps}, too large for a job file; write at most {MAX_STEPS:,}"
+    if form.newton_maxiter >= NEWTON_ROOM:
+        return 17, "newton_maxiter", f"newton_maxiter is {form.newton_maxiter}, too large for a job file; write at most {MAX_NEWTON}"
+    if form.automatic and form.first_step != 0:
+        return 17, "first_step", "the start is automatic and yet there is a first_step"
+    return None
+
+
+def unready(form):
+    """Numbers 5 to 8: what the job program does not begin with. NaN and -0 are not below 0."""
+    for word, bits in (("rtol", form.rtol), ("atol", form.atol)):
+        if value(bits) < 0:
+            return 5, word, f"{word} is below 0"
+    if form.max_steps == 0:
+        return 6, "max_steps", "max_steps is 0"
+    if form.max_steps > MAX_STEPS:
+        return 7, "max_steps", f"max_steps is {form.max_steps}, above {MAX_STEPS:,}"
+    if form.newton_maxiter > MAX_NEWTON:
+        return 7, "newton_maxiter", f"newton_maxiter is {form.newton_maxiter}, above {MAX_NEWTON}"
+    if not form.automatic and form.first_step in ZEROS:
+        return 8, "first_step", "first_step is 0; write automatic, or another number"
+    return None
+
+
+def refused(place, found):
+    """What `refusal` found, in words that end in its number."""
+    by, _, sentence = found
+    who = "no job file can say it: refused" if by == 17 else "the job program would refuse it"
+    return Wrong(f"{place}: {sentence} ({who} by number {by})", by)
+
+
+def to_save(form, name):
+    """The bytes of a form that is to be saved: only what the writer accepts."""
+    found = refusal(form)
+    if found:
+        raise refused(name, found)
+    return form.packed()
 
 
 def row(head, numbers):
@@ -80,34 +148,64 @@ def number(text, where):
     return int.from_bytes(struct.pack(">d", x), "big")
 
 
-def whole(text, most, where):
-    if not re.fullmatch("[0-9]{1,9}", text) or int(text) > most:
-        raise Wrong(f"{where}: {text} is no whole number from 0 to {most}")
-    return int(text)
+def whole(text, where):
+    """A count as written. 20 digits are more than any count may have; `refusal` says which are too large."""
+    if not re.fullmatch("0*[0-9]{1,20}", text):
+        raise Wrong(f"{where}: {text} is no whole number that a job can have (such as 0, 4 or 1000)")
+    return int(text[-20:])
 
 
 def of_text(text, name):
-    """The job that a text says. Every word is written once; what the job program would refuse is refused here, by its line."""
+    """The job that a text says. Every word is written once; what is no form is told first, then what the writer refuses, by its
+    line and in the writer's order."""
     said, where = sorted_by_word(text, name)
     for word in WORDS:
         if word not in said:
             raise Wrong(f"{name}: there is no line that begins with {word}")
-    fields = {"title": said.get("title"), "axis": said.get("axis")}
-    for word, most in zip(COUNTS, (MAX_N, MAX_STEPS, MAX_NEWTON)):
-        fields[word] = whole(one(said[word], word, where), most, where[word])
+    form = form_of(said, where)
+    found = refusal(form)
+    if found:
+        raise refused(*in_its_line(found, form, said, where))
+    misshapen = shape(said["A"], form.n, where["A"])
+    if misshapen:  # as many numbers as there should be, but in other rows
+        raise Wrong(": ".join(misshapen))
+    if "names" in said and len(said["names"]) != form.n:
+        raise Wrong(f"{where['names']}: {len(said['names'])} names for {form.n} components")
+    return form
+
+
+def form_of(said, where):
+    """What stands in a text, word by word, whether or not it may be saved."""
+    fields = {word: said.get(word) for word in SPOKEN}
+    for word in COUNTS:
+        fields[word] = whole(one(said[word], word, where), where[word])
     for word in DOUBLES:
         given = one(said[word], word, where)
         automatic = word == "first_step" and given == "automatic"
-        fields[word] = None if automatic else number(given, where[word])
-    n = fields["n"]
-    fields["y0"] = row_of(said["y0"], n, "y0", where["y0"])
-    fields["A"] = rows_of(said["A"], n, where["A"])
-    if "names" in said:
-        if len(said["names"]) != n:
-            raise Wrong(f"{where['names']}: {len(said['names'])} names for {n} components")
-        fields["names"] = said["names"]
-    refuse_what_would_be_refused(fields, where)
-    return Job(fields)
+        fields[word] = 0 if automatic else number(given, where[word])
+    fields["automatic"] = said["first_step"] == ["automatic"]
+    fields["y0"] = [number(part, where["y0"]) for part in said["y0"]]
+    fields["A"] = [number(part, place) for parts, place in said["A"] for part in parts]
+    return Form(fields)
+
+
+def in_its_line(found, form, said, where):
+    """The place in the text of what `refusal` found, and that again: of A the row that is at fault."""
+    by, word, _ = found
+    if word != "A":
+        return where[word], found
+    place, sentence = shape(said["A"], form.n, where["A"])
+    return place, (by, word, sentence)
+
+
+def shape(rows, n, place):
+    """Where A is not n rows of n numbers, and in what way; None where it is."""
+    if len(rows) != n:
+        return place, f"A has {len(rows)} rows, but n is {n}"
+    for i, (parts, at) in enumerate(rows, 1):
+        if len(parts) != n:
+            return at, f"row {i} of A has {len(parts)} numbers, but n is {n}"
+    return None
 
 
 def sorted_by_word(text, name):
@@ -141,53 +239,26 @@ def one(parts, word, where):
     return parts[0]
 
 
-def row_of(parts, n, what, place):
-    if len(parts) != n:
-        raise Wrong(f"{place}: {what} has {len(parts)} numbers, but n is {n}")
-    return [number(part, place) for part in parts]
-
-
-def rows_of(rows, n, place):
-    if len(rows) != n:
-        raise Wrong(f"{place}: A has {len(rows)} rows, but n is {n}")
-    return [bits for i, (parts, at) in enumerate(rows) for bits in row_of(parts, n, f"row {i + 1} of A", at)]
-
-
-def refuse_what_would_be_refused(fields, where):
-    """Numbers 5, 6 and 8 of the job program. With no component it ends at once and looks at none of them."""
-    if fields["n"] == 0:
-        return
-    for word in ("rtol", "atol"):
-        if value(fields[word]) < 0:
-            raise Wrong(f"{where[word]}: {word} is below 0 (the job program would refuse it by number 5)")
-    if fields["max_steps"] == 0:
-        raise Wrong(f"{where['max_steps']}: max_steps is 0 (the job program would refuse it by number 6)")
-    if fields["first_step"] in ZEROS:
-        raise Wrong(f"{where['first_step']}: first_step is 0; write automatic (the job program would refuse 0 by number 8)")
-
-
 def of_bytes(data, name):
-    """The job in a packed file."""
+    """The job in a packed file: whatever the job program reads as one. It may yet refuse it by 5 to 8, and so does `to_save`."""
     if len(data) < 5:
-        raise Wrong(f"{name}: {len(data)} bytes; a job has at least 5 (refused by number 17)")
+        raise Wrong(f"{name}: {len(data)} bytes; a job has at least 5 (refused by number 17)", 17)
     head = int.from_bytes(data[:5], "big")
     n, automatic = head >> 34, head >> 6 & 1
     if n > MAX_N:
-        raise Wrong(f"{name}: n is {n}, above {MAX_N} (refused by number 1)")
+        raise Wrong(f"{name}: n is {n}, above {MAX_N} (refused by number 1)", 1)
     length = 5 + 8 * (5 + n + n * n)
     if len(data) != length:
-        raise Wrong(f"{name}: {len(data)} bytes; a job of n {n} has {length} (refused by number 17)")
+        raise Wrong(f"{name}: {len(data)} bytes; a job of n {n} has {length} (refused by number 17)", 17)
     if head & 0x3F:
-        raise Wrong(f"{name}: one of the six zero bits of the head is set (refused by number 17)")
+        raise Wrong(f"{name}: one of the six zero bits of the head is set (refused by number 17)", 17)
     doubles = [int.from_bytes(data[i : i + 8], "big") for i in range(5, length, 8)]
     if automatic and doubles[2] != 0:
-        raise Wrong(f"{name}: the start is automatic and yet there is a first_step (refused by number 17)")
+        raise Wrong(f"{name}: the start is automatic and yet there is a first_step (refused by number 17)", 17)
     fields = {"n": n, "max_steps": head >> 14 & 0xFFFFF, "newton_maxiter": head >> 7 & 0x7F}
-    fields.update(zip(DOUBLES, doubles))
-    if automatic:
-        fields["first_step"] = None
+    fields.update(zip(DOUBLES, doubles), automatic=automatic == 1)
     fields["y0"], fields["A"] = doubles[5 : 5 + n], doubles[5 + n :]
-    return Job(fields)
+    return Form(fields)
 
 
 def of_file(path):
