@@ -111,7 +111,7 @@ def words(numbers):
 
 
 def file_stream(data, room):
-    return words([1, room, len(data)]) + data + bytes(-len(data) % 8)
+    return words([1, room, len(data)]) + data
 
 
 def compare(writer, runner, every):
@@ -221,8 +221,8 @@ def streams_that_are_no_cases(writer):
     """Each has a good case before it, which is answered; then comes X, and nothing more."""
     good = words([0, 0, 33] + [0] * 10)
     head = [0, 0, 1, 1, 4, 0, 0, 0, 0, 0, 0]
-    unfit = [words([2, 0]), words([forms.MOST]), words([0, 8_601] + [0] * 11), words([0, 0, 0, 0, 0, 2] + [0] * 7), words([1, 8_601, 0])]
-    unfit += [words(head + [65, 0] + [0] * 65), words(head + [0, 1_101] + [0] * 1_101), words([1, 0, 8_601] + [0] * 1_076)]
+    unfit = [words([2, 0]), words([forms.MOST]), words([0, 8_801] + [0] * 11), words([0, 0, 0, 0, 0, 2] + [0] * 7), words([1, 8_801, 0])]
+    unfit += [words(head + [65, 0] + [0] * 65), words(head + [0, 1_101] + [0] * 1_101), words([1, 0, 8_801] + [0] * 1_101)]
     unfit += [words(head[:5]), words(head + [1, 1, 0]), words([1, 0, 9, 0]), words([1]), b"\0\0\0"]
     row = Row()
     for stream in unfit:

@@ -8,7 +8,7 @@ import packed
 
 SIGN, INFINITY = 1 << 63, 0x7FF0 << 48
 MOST = (1 << 64) - 1  # the largest word
-LONGEST_ROOM = 8_600  # the writer is lent no longer slice, and put no longer file
+LONGEST_ROOM = 8_800  # the program lends the writer no longer slice, and takes no longer file
 FEW = 20  # steps of a job whose run may be any
 
 

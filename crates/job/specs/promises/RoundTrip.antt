@@ -74,6 +74,10 @@ reads-found s f y0 a bytes reads =
     let found = packed-read s bytes f (h .form) in
     rw (h .state, h .cells) at found
 
+-- y0 of a job has as many words as there are components
+pub state-long : (s : List ℕ) (f : Form) (y0 a : List ℕ) → JobFile s f y0 a → length y0 ≡ f .n
+state-long s f y0 a job = reads-found s f y0 a (job .bytes) (job .reads) .fits .long
+
 -- ---- one file for each form
 
 -- two files that read as the same form with the same y0 and A are the same bytes
