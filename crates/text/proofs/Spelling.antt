@@ -1,6 +1,6 @@
 -- Digits that are written from the last to the first are the digits that stand from the first to the last: spelled as text, or as bytes.
 -- By induction on how many there are: the first one written is the last of the row, and no later one touches it.
-use mathlib.Core.Path.{_≡_, refl, sym, _∙_}
+use mathlib.Core.Path.{_≡_, sym, _∙_}
 use mathlib.Core.List.{List, [], _∷_, _++_}
 use Prim.Native.Nat.{ℕ, zero, suc, _+_, _-_, _/_, _%_, _≤_, _<_}
 use native.Mathlib.Nat.{add-zero, add-suc}

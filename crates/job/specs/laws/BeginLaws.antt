@@ -2,7 +2,7 @@
 -- or by none.
 use mathlib.Core.Path.{_≡_, refl, sym, _∙_}
 use mathlib.Core.Bool.{Bool, true, false, _||_}
-use mathlib.Core.List.{List, []}
+use mathlib.Core.List.{[]}
 use Prim.Native.Nat.{ℕ, zero, suc, _+_, _<_}
 use native.Mathlib.Omega.{arith}
 use lib.Dec.{ltb, eqb}
@@ -17,7 +17,7 @@ use Rattle.number.specs.Helpers.{signumOf}
 use Rattle.rules.specs.Refusals.{numberOf}
 use Rattle.rules.specs.Checks.{zeroStep, negative, limited, orElse, tolerancesChecked}
 use Rattle.job.specs.declared.form.Form.{Form}
-use Rattle.job.specs.Types.{Unset, Given, Scalar, Check, Refuse, Passed}
+use Rattle.job.specs.Types.{Unset, Given, Scalar, Check, Passed}
 use Rattle.job.specs.Packed.{valueOf}
 use Rattle.job.specs.Reading.{firstStepOf, jobOf, settingsOf}
 use Rattle.job.specs.Writing.{beginsOf, begunOf}

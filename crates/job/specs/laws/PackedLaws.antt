@@ -2,7 +2,7 @@
 -- accepted file has that file as its bytes.
 use mathlib.Core.Path.{_≡_, refl, sym, ap, subst, _∙_}
 use mathlib.Core.Bool.{Bool, true, false, _&&_, _||_, not}
-use mathlib.Core.List.{List, [], _∷_, _++_}
+use mathlib.Core.List.{List, _++_}
 use Prim.Native.Nat.{ℕ, _+_, _*_, _^_, _≤_, _<_}
 use native.Mathlib.Nat.{zero-add}
 use native.Mathlib.Omega.{arith}
@@ -10,7 +10,6 @@ use lib.Dec.{ltb, eqb}
 use lib.ListN.{length, take, drop, getD, length-append, length-drop, take-append-drop, List·getD-append}
 use lib.Seq.{drop-drop, take-at, drop-at, take-all}
 use borrow.Author.Tests.{le-ltb, eq-eqb, ltb-false, eqb-true}
-use Rattle.loops.specs.Choice.{if_then_else_}
 use Rattle.loops.specs.Loop.{loop}
 use Rattle.loops.specs.Refusal.{Outcome, gives, refuses}
 use Rattle.loops.specs.laws.ChoiceLaws.{either, when-true, when-false, and-passes, and-first, and-second}

@@ -1,7 +1,7 @@
 -- What holds of a job that was read: it has at most as many components as are served, the file is as long as they make it, and as many
 -- numbers are read of it as are asked for.
-use mathlib.Core.Path.{_≡_, refl, sym, ap, _∙_}
-use mathlib.Core.Bool.{Bool, true, false}
+use mathlib.Core.Path.{_≡_, refl, ap, _∙_}
+use mathlib.Core.Bool.{true}
 use mathlib.Core.List.{List, [], _∷_, _++_, map}
 use Prim.Native.Nat.{ℕ, zero, suc, _≤_}
 use native.Mathlib.Omega.{arith}
@@ -9,7 +9,6 @@ use lib.Dec.{ltb, eqb}
 use lib.ListN.{length, length-append}
 use lib.Ieee.{Float}
 use borrow.Author.Tests.{ltb-false, eqb-true}
-use Rattle.loops.specs.Choice.{if_then_else_}
 use Rattle.loops.specs.laws.ChoiceLaws.{either, and-first}
 use Rattle.loops.specs.Refusal.{Outcome, gives, refuses}
 use Rattle.job.specs.declared.packed.Head.{Head}
@@ -17,7 +16,7 @@ use Rattle.job.specs.declared.form.Form.{Form}
 use Rattle.job.specs.declared.reader.Job.{Job}
 use Rattle.job.specs.Types.{maxN}
 use Rattle.job.specs.Packed.{headLength, headBits, headOf, wordsOf, valueOf, doublesOf, lengthFor}
-use Rattle.job.specs.Reading.{ReadOutcome, acceptedOf, formOf, headRead, formRead, jobOf, placed, readOf}
+use Rattle.job.specs.Reading.{acceptedOf, formOf, headRead, formRead, jobOf, placed, readOf}
 
 -- ---- a form that was read
 

@@ -4,7 +4,7 @@
 -- It holds since forms that fit and files that are accepted are one to one (`PackedLaws`), and since both go by the beginning's own checks
 -- (`BeginningLaws`). Numbers travel as their 64 bits: no payload of a NaN is lost, and there is no exception.
 use mathlib.Core.Path.{_≡_, refl, sym, ap, _∙_}
-use mathlib.Core.List.{List, [], _∷_, _++_, map, append-nil}
+use mathlib.Core.List.{List, [], _++_, map, append-nil}
 use Prim.Native.Nat.{ℕ, zero, suc, _+_, _*_, _≤_, _<_}
 use native.Mathlib.Omega.{arith}
 use lib.Dec.{ltb}
@@ -15,14 +15,14 @@ use borrow.Author.Tests.{lt-ltb, le-ltb, ltb-false}
 use Rattle.loops.specs.Arithmetic.{+0}
 use Rattle.loops.specs.Refusal.{Outcome, gives, refuses}
 use Rattle.loops.specs.laws.ChoiceLaws.{either, when-true, when-false}
-use Rattle.text.specs.Words.{bytesOf, Below}
+use Rattle.text.specs.Words.{Below}
 use Rattle.rules.specs.Places.{need}
 use Rattle.job.specs.declared.form.Form.{Form}
-use Rattle.job.specs.Types.{Passed, maxN}
+use Rattle.job.specs.Types.{maxN}
 use Rattle.job.specs.Packed.{wordsOf, valueOf, lengthFor}
 use Rattle.job.specs.Reading.{FormOutcome, formRead, formPlaced, readFormOf, jobOf}
-use Rattle.job.specs.Writing.{packedOf, fitsOf, beginsOf, judgedOf, WriteOutcome, writtenOver, writeOf}
-use Rattle.job.specs.JobFile.{Reads, Begins, JobFile, OfWords}
+use Rattle.job.specs.Writing.{packedOf, judgedOf, WriteOutcome, writtenOver, writeOf}
+use Rattle.job.specs.JobFile.{Reads, JobFile, OfWords}
 use Rattle.job.specs.laws.ReadingLaws.{values-long}
 use Rattle.job.specs.laws.FitLaws.{Fits, fits-test, test-fits}
 use Rattle.job.specs.laws.PackedLaws.{length-packed, packed-small, read-packed, y0-packed, a-packed, Found, packed-read}

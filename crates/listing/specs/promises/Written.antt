@@ -3,28 +3,26 @@
 --
 -- It holds since the job program reads the file's numbers as the values of their bits (`read-is-valued`), and the solver does not refuse to
 -- begin with them.
-use mathlib.Core.Path.{_≡_, refl, sym, ap, subst, _∙_}
+use mathlib.Core.Path.{_≡_, sym, ap, _∙_}
 use mathlib.Core.List.{List, [], _++_, map}
 use mathlib.Core.Option.{none, some, Option·some-ne-none}
 use Prim.Native.Nat.{ℕ, _*_, _≤_}
 use native.Mathlib.Omega.{arith}
 use lib.ListN.{length, take, drop, replicate, length-replicate}
 use lib.Seq.{take-at}
-use lib.Ieee.{Float}
 use Rattle.loops.specs.Arithmetic.{+0}
-use Rattle.loops.specs.Refusal.{Outcome, gives, refuses}
+use Rattle.loops.specs.Refusal.{gives, refuses}
 use Rattle.text.specs.laws.Fronts.{squared}
 use Rattle.matrix.specs.Size.{maxN}
 use Rattle.rules.specs.Places.{need}
 use Rattle.rules.specs.Refusals.{told, refusalOf}
 use Rattle.job.specs.declared.form.Form.{Form}
 use Rattle.job.specs.Packed.{valueOf}
-use Rattle.job.specs.Reading.{FormOutcome, ReadOutcome, jobOf, configurationOf}
+use Rattle.job.specs.Reading.{FormOutcome, ReadOutcome, jobOf}
 use Rattle.job.specs.JobFile.{JobFile}
 use Rattle.job.specs.laws.ReadingLaws.{values-long, read-serves}
 use Rattle.job.specs.promises.RoundTrip.{state-long}
 use Rattle.job.specs.promises.Values.{valued, read-is-valued}
-use Rattle.listing.specs.Types.{Job}
 use Rattle.listing.specs.Printed.{blankWork, blankQuestion, reading, printed}
 use Rattle.listing.specs.Telling.{Ran}
 use Rattle.listing.specs.promises.Whole.{Whole, no-job, not-begun, ran, configured, beginningOf, printed-is-whole}

@@ -1,6 +1,5 @@
 -- `write_job::case` is safe: the room is tested before the part is taken. Assumes nothing.
 use mathlib.Core.Path.{sym}
-use native.Mathlib.Omega.{arith}
 use lib.Seq.{length-take-le}
 use borrow.Author.Needs.{needs}
 use Rattle.write_job.proofs.case.Statement.{statement}

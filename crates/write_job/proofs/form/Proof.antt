@@ -1,6 +1,5 @@
 -- `write_job::form` is safe: the lengths are tested before the parts are taken. Assumes nothing.
 use mathlib.Core.Path.{sym}
-use native.Mathlib.Omega.{arith}
 use lib.Seq.{length-take-le}
 use borrow.Author.Needs.{needs}
 use Rattle.write_job.proofs.form.Statement.{statement}

@@ -1,11 +1,11 @@
 -- `packed::doubles` meets its contract. The invariant: the places passed hold their doubles, and those to come are as they were.
 -- Assumes nothing.
-use mathlib.Core.Path.{_≡_, refl, sym, ap, _∙_}
+use mathlib.Core.Path.{_≡_, refl}
 use mathlib.Core.List.{List, [], _∷_, _++_}
 use Prim.Native.Nat.{ℕ, suc, _+_, _-_, _≤_}
 use native.Mathlib.Omega.{arith}
 use lib.Ieee.{Float}
-use Rattle.job.specs.Packed.{wordOf, wordsOf, valueOf, doubleOf, doublesOf}
+use Rattle.job.specs.Packed.{wordOf, wordsOf, doubleOf, doublesOf}
 use Rattle.job.specs.laws.ReadingLaws.{values-append}
 use Rattle.job.proofs.Loading.{Loaded, none-loaded, one-more, all-loaded}
 use Rattle.job.proofs.packed.doubles.Statement.{statement}

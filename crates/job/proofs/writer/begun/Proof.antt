@@ -1,10 +1,10 @@
 -- `writer::begun` meets its contract: the code's tests are those that the beginning's checks come to (`begun-by-tests`), in their order.
 -- Assumes nothing.
 use mathlib.Core.Path.{_≡_, sym, _∙_}
-use mathlib.Core.Bool.{Bool, true, false, _||_}
+use mathlib.Core.Bool.{true, false, _||_}
 use Prim.Native.Nat.{ℕ, zero, suc, _<_, _≤_}
 use native.Mathlib.Omega.{arith}
-use lib.Dec.{ltb, eqb}
+use lib.Dec.{ltb}
 use lib.Ieee as Ieee
 use lib.Ieee.{Float}
 use borrow.Author.Needs.{needs}

@@ -6,7 +6,7 @@ use Prim.Native.Nat.{ℕ, _≤_, _<_}
 use lib.ListN.{length, drop}
 use borrow.Author.Needs.{needs}
 use borrow.Author.Tests.{lt-ltb, le-ltb}
-use Rattle.loops.specs.Refusal.{Outcome, gives, refuses}
+use Rattle.loops.specs.Refusal.{gives, refuses}
 use Rattle.loops.specs.laws.ChoiceLaws.{when-true, when-false}
 use Rattle.job.specs.declared.form.Form.{Form}
 use Rattle.job.specs.declared.writer.Writing.{Writing}
