@@ -1,4 +1,5 @@
--- A file that a reader accepts as a job, in the words of the contracts: for what is promised of reader and writer together.
+-- A file that is a job: a reader takes it for one, and the solver does not refuse to begin with it. So document 01 has it, where past 17
+-- and 1 come the beginning's own refusals, and this is what 02 §7 calls accepted as a job. In the words of the contracts.
 use mathlib.Core.Path.{_≡_}
 use mathlib.Core.List.{List, _++_, map}
 use mathlib.Core.Option.{none}
@@ -25,7 +26,7 @@ abbrev pub Begins : Job → List Float → Type 0
 Begins job y0 =
     (ws q : List Float) → need (job .n) ≤ length ws → 8 * job .n ≤ length q → refusalOf (beginning (configurationOf job y0) ws q .is .answer) ≡ none
 
--- the bytes s are a job: the form f with y0 and A. So the job program takes it: past 17 and 1 come the beginning's own refusals
+-- the bytes s are a job: the form f with y0 and A
 pub record JobFile (s : List ℕ) (f : Form) (y0 a : List ℕ) : Type 0 where
   pub bytes : Below 256 s
   pub reads : Reads s f y0 a

@@ -1,4 +1,4 @@
--- The packed form of a job, field by field: a head of 40 bits, then 64-bit words, the most significant bit first throughout.
+-- A job as it is packed, field by field: a head of 40 bits, then 64-bit words, the most significant bit first throughout.
 -- Each field is a plain function of the bytes.
 use mathlib.Core.List.{List, [], _∷_, _++_, map}
 use Prim.Native.Nat.{ℕ, zero, suc, _+_, _*_, _/_, _%_, _^_}

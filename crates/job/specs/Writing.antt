@@ -57,6 +57,7 @@ beginsOf job =
     if eqb (job .n) 0 then Passed
     else tolerancesChecked (settingsOf job) (job .n) (signumOf (job .xend ⊖ job .x0)) (Scalar (job .rtol)) [] (Scalar (job .atol)) []
 
+-- what a check comes to: the length, or the number of the refusal
 abbrev pub begunOf : ℕ → Check → Outcome ℕ
 begunOf long Passed = gives long
 begunOf long (Refuse why) = refuses (numberOf why)

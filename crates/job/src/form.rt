@@ -44,7 +44,7 @@ pub enum FormReading {
 pub fn read_form(s: &[u8], y0: &mut [u64; MAX_N], a: &mut [u64; CELLS]) -> FormReading
     ensures { λ r. ⌜ (formReadingOf r, now (y0 .exit), now (a .exit)) ≡ readFormOf (now (s .entry)) (now (y0 .entry)) (now (a .entry)) ⌝ }
 {
-    match form_in(s) {
+    match form_read(s) {
         FormReading::Read(f) => {
             let n = f.n;
             packed::words(s, SINGLE, n, y0);
@@ -56,7 +56,7 @@ pub fn read_form(s: &[u8], y0: &mut [u64; MAX_N], a: &mut [u64; CELLS]) -> FormR
 }
 
 // The form, or why the bytes are no job.
-pub(crate) fn form_in(s: &[u8]) -> FormReading
+pub(crate) fn form_read(s: &[u8]) -> FormReading
     ensures { λ r. ⌜ formReadingOf r ≡ formRead (now (s .entry)) ⌝ }
 {
     if s.len() < HEAD {
@@ -77,8 +77,7 @@ fn accepted(s: &[u8], h: Head) -> bool
     requires { ⌜ h .n ≤ maxN ⌝ }
     ensures { λ r. ⌜ r ≡ acceptedOf (now (s .entry)) h ⌝ }
 {
-    let n = h.n;
-    if s.len() != HEAD + 8 * (SINGLE + n + n * n) {
+    if s.len() != packed::length_for(h.n) {
         return false;
     }
     if h.padding != 0 {

@@ -1,14 +1,15 @@
-// The packed form: a head of 40 bits, then 64-bit doubles, the most significant bit first throughout.
+// A job as it is packed: a head of 40 bits, then 64-bit doubles, the most significant bit first throughout.
 ghost use mathlib.Core.Path.{_≡_};
 ghost use Prim.Native.Nat.{_+_, _*_, _≤_};
 ghost use mathlib.Core.List.{_++_};
 ghost use lib.ListN.{length, drop};
 ghost use Rattle.text.specs.Words.{wordFrom};
-ghost use Rattle.job.specs.Packed.{headLength, headBits, headOf, place, wordsOf, doubleOf, doublesOf};
+ghost use Rattle.job.specs.Types.{maxN};
+ghost use Rattle.job.specs.Packed.{headLength, headBits, headOf, place, lengthFor, wordsOf, doubleOf, doublesOf};
 use matrix::MAX_N;
 use text::Word;
 
-// The most cells of its matrix.
+// The most cells of a job's matrix.
 pub const CELLS: usize = MAX_N * MAX_N;
 
 // The bytes of the head.
@@ -19,6 +20,14 @@ pub(crate) const SINGLE: usize = 5;
 
 // No job file is longer.
 pub const LONGEST: usize = HEAD + 8 * (SINGLE + MAX_N + CELLS);
+
+// How many bytes a job of n components has.
+pub(crate) fn length_for(n: usize) -> usize
+    requires { ⌜ n ≤ maxN ⌝ }
+    ensures { λ r. ⌜ r ≡ lengthFor n ⌝ }
+{
+    HEAD + 8 * (SINGLE + n + n * n)
+}
 
 // The head's fields, in their order. `padding` is what stands behind them.
 pub(crate) struct Head {

@@ -34,7 +34,7 @@ pub enum Reading {
 pub fn read(s: &[u8], y0: &mut [f64; MAX_N], a: &mut [f64; CELLS]) -> Reading
     ensures { λ r. ⌜ (readingOf r, now (y0 .exit), now (a .exit)) ≡ readOf (now (s .entry)) (now (y0 .entry)) (now (a .entry)) ⌝ }
 {
-    match form::form_in(s) {
+    match form::form_read(s) {
         FormReading::Read(f) => {
             let n = f.n;
             packed::doubles(s, SINGLE, n, y0);

@@ -8,10 +8,12 @@ ghost use Rattle.text.specs.laws.PageLaws.{laid};
 ghost use Rattle.job.specs.Types.{maxN};
 ghost use Rattle.job.specs.Packed.{lengthFor};
 ghost use Rattle.job.specs.Reading.{jobOf};
-ghost use Rattle.job.specs.Writing.{bit, headFor, joined, packedOf, fitsOf, beginsOf, begunOf, judgedOf, writingOf, writeOf};
+ghost use Rattle.job.specs.Writing.{bit as bitOf};
+ghost use Rattle.job.specs.Writing.{headFor, joined, packedOf, fitsOf, beginsOf, begunOf, judgedOf, writingOf, writeOf};
 use crate::form::Form;
 use crate::form::NO_JOB;
 use crate::form::TOO_MANY_COMPONENTS;
+use crate::packed;
 use crate::packed::HEAD;
 use crate::packed::SINGLE;
 use matrix::MAX_N;
@@ -63,8 +65,7 @@ fn judged(f: Form, places: usize, cells: usize) -> Writing
     if !fits(f, places, cells) {
         return Writing::Refused(NO_JOB);
     }
-    let n = f.n;
-    begun(f, HEAD + 8 * (SINGLE + n + n * n))
+    begun(f, packed::length_for(f.n))
 }
 
 // Whether y0 and A have their lengths, each limit fits its field, and a first_step that is not used has only zero bits.
@@ -142,11 +143,11 @@ fn head_for(f: Form) -> u64
     ensures { λ r. ⌜ r ≡ headFor f ⌝ }
 {
     let limits = (f.n as u64 * 0x10_0000 + f.max_steps as u64) * 0x80 + f.newton_maxiter as u64;
-    (limits * 2 + flag(f.automatic)) * 0x40
+    (limits * 2 + bit(f.automatic)) * 0x40
 }
 
-fn flag(b: bool) -> u64
-    ensures { λ r. ⌜ r ≡ bit b ⌝ }
+fn bit(b: bool) -> u64
+    ensures { λ r. ⌜ r ≡ bitOf b ⌝ }
 {
     if b { 1 } else { 0 }
 }

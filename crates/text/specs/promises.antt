@@ -1,4 +1,4 @@
--- What is promised of text: its contracts leave no choice, a word that is put is the word that is read, and what they give at numbers
+-- What is promised of text: its contracts leave no choice, a word and its eight bytes are each other's way back, and what they give at numbers
 -- that are easily got wrong.
 pub mod Unique
 pub mod RoundTrip

@@ -8,18 +8,21 @@ use lib.Dec.{eqb}
 use lib.ListN.{length}
 use lib.Ieee.{Float}
 use borrow.Author.Tests.{le-ltb}
+use Rattle.loops.specs.Refusal.{refuses}
 use Rattle.loops.specs.laws.ChoiceLaws.{when-true, when-false}
 use Rattle.rules.specs.Places.{need}
 use Rattle.rules.specs.State.{After}
 use Rattle.rules.specs.declared.types.Turn.{Turn}
-use Rattle.rules.specs.Refusals.{Told, told, refusalOf}
+use Rattle.rules.specs.declared.types.Answer.the-variants.{Refused}
+use Rattle.rules.specs.declared.types.Refusal.{Refusal}
+use Rattle.rules.specs.Refusals.{Told, told, numberOf, refusalOf}
 use Rattle.rules.specs.Checks.{checked, tolerancesChecked}
 use Rattle.rules.specs.Begin.{askFirst, beginRun, beginOf}
 use Rattle.rules.specs.Calls.{Configuration, direction, beginning, beginningChecked, beginningTurn}
 use Rattle.job.specs.declared.reader.Job.{Job}
 use Rattle.job.specs.Types.{Check, Refuse, Passed, maxN}
 use Rattle.job.specs.Reading.{configurationOf}
-use Rattle.job.specs.Writing.{beginsOf}
+use Rattle.job.specs.Writing.{beginsOf, begunOf}
 
 -- what a check tells
 abbrev toldBy : Check → Option Told
@@ -62,3 +65,11 @@ module _ (j : Job) (y0 ws q : List Float) (long : length y0 ≡ j .n) (few : j .
 
   pub begins-passed : refusalOf (beginning (configurationOf j y0) ws q .is .answer) ≡ none → beginsOf j ≡ Passed
   begins-passed e = passed-tells-nothing (beginsOf j) (sym beginning-tells ∙ e)
+
+  pub refused-begins : (why : Refusal) (long : ℕ) → beginning (configurationOf j y0) ws q .is .answer ≡ Refused why → begunOf long (beginsOf j) ≡ refuses (numberOf why)
+  unfolding numberOf
+  refused-begins why long e = begun-refused long (beginsOf j) (sym beginning-tells ∙ ap refusalOf e)
+    where
+      begun-refused : (l : ℕ) (k : Check) → toldBy k ≡ some (told why) → begunOf l k ≡ refuses (numberOf why)
+      begun-refused l Passed t = absurd (Option·some-ne-none (told why) (sym t))
+      begun-refused l (Refuse w) t = let same : told w ≡ told why = cc in ap (λ (x : Told). refuses (x .0)) same

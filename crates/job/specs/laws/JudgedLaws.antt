@@ -2,25 +2,21 @@
 use mathlib.Core.Path.{_≡_, refl, ap, _∙_}
 use mathlib.Core.Bool.{true}
 use Prim.Native.Nat.{ℕ, _≤_}
-use native.Mathlib.Omega.{arith}
 use lib.Dec.{ltb}
 use borrow.Author.Tests.{le-ltb, ltb-false}
-use Rattle.loops.specs.Refusal.{Outcome, gives, refuses}
+use Rattle.loops.specs.Refusal.{Outcome, gives}
 use Rattle.loops.specs.laws.ChoiceLaws.{either, when-true, when-false}
 use Rattle.job.specs.declared.form.Form.{Form}
 use Rattle.job.specs.Types.{Check, Refuse, Passed, maxN}
 use Rattle.job.specs.Packed.{lengthFor}
 use Rattle.job.specs.Reading.{jobOf}
+use Rattle.job.specs.laws.ReadingLaws.{refuses-nothing}
 use Rattle.job.specs.Writing.{fitsOf, beginsOf, begunOf, judgedOf}
 
 pub record Accepted (f : Form) (places cells : ℕ) : Type 0 where
   pub few : f .n ≤ maxN
   pub fits : fitsOf f places cells ≡ true
   pub begins : beginsOf (jobOf f) ≡ Passed
-
--- a refusal gives nothing
-refuses-nothing : {A : Type 0} {number k : ℕ} → refuses number ≡ gives k → A
-refuses-nothing e = let z : _≡_ {A = ℕ} 0 1 = cc in absurd (omega arith)
 
 begun-passes : (long k : ℕ) (check : Check) → begunOf long check ≡ gives k → (check ≡ Passed) × (k ≡ long)
 begun-passes long k Passed e = (refl, cc)

@@ -36,7 +36,6 @@ pub laid-packed : (f : Form) (y0 a out b c d e : List ℕ) → length y0 ≡ f .
     → e ≡ packedOf f y0 a ++ drop (lengthFor (f .n)) out
 unfolding packedOf
 laid-packed f y0 a out b c d e n m room p q r t =
-    let h : List ℕ = bytesOf 5 (headFor f) in
     let five : length (bytesOf 5 (headFor f)) ≡ 5 = length-bytes 5 (headFor f) in
     let forty : length (joined (singles f)) ≡ 40 = length-joined (singles f) in
     let long : length (joined y0) ≡ 8 * length y0 = length-joined y0 in

@@ -22,7 +22,7 @@ use Rattle.job.specs.Reading.{acceptedOf, formOf, headRead, formRead}
 use Rattle.job.specs.Writing.{bit, headFor, wordsIn, joined, packedOf}
 use Rattle.job.specs.laws.FitLaws.{Fits}
 use Rattle.job.specs.laws.HeadLaws.{bit-small, bit-back, bit-again, bit-unset, head-fields, head-joined}
-use Rattle.job.specs.laws.ReadingLaws.{words-long}
+use Rattle.job.specs.laws.ReadingLaws.{refuses-nothing, words-long}
 use Rattle.job.specs.laws.JoinedLaws.{length-joined, words-add, word-joined, words-joined, joined-words, words-small, joined-small}
 
 head-number : (s : List ℕ) → headBits s ≡ number s 0 5
@@ -35,7 +35,7 @@ not-not false = refl
 
 -- ---- read what was written
 
-module _ (f : Form) (y0 a : List ℕ) (few : f .n ≤ maxN) (fits : Fits f (length y0) (length a)) (words : Below (2 ^ 64) (wordsIn f y0 a)) where
+module _ (f : Form) (y0 a : List ℕ) (fits : Fits f (length y0) (length a)) where
   length-in : length (wordsIn f y0 a) ≡ 5 + f .n + f .n * f .n
   length-in = omega (arith, length-append y0 a, fits .long, fits .square)
 
@@ -43,6 +43,7 @@ module _ (f : Form) (y0 a : List ℕ) (few : f .n ≤ maxN) (fits : Fits f (leng
   unfolding packedOf
   length-packed = omega (arith, length-append (bytesOf 5 (headFor f)) (joined (wordsIn f y0 a)), length-bytes 5 (headFor f), length-joined (wordsIn f y0 a), length-in)
 
+module _ (f : Form) (y0 a : List ℕ) (few : f .n ≤ maxN) (fits : Fits f (length y0) (length a)) (words : Below (2 ^ 64) (wordsIn f y0 a)) where
   head-small : headFor f < 2 ^ 40
   head-small = omega (arith, few, fits .steps, fits .newton, bit-small (f .automatic))
 
@@ -62,7 +63,7 @@ module _ (f : Form) (y0 a : List ℕ) (few : f .n ≤ maxN) (fits : Fits f (leng
   words-packed : (i count : ℕ) → i + count ≤ 5 + f .n + f .n * f .n → wordsOf (packedOf f y0 a) i count ≡ take count (drop i (wordsIn f y0 a))
   unfolding packedOf
   words-packed i count room =
-      words-joined (bytesOf 5 (headFor f)) (wordsIn f y0 a) (length-bytes 5 (headFor f)) words i count (omega (arith, length-in))
+      words-joined (bytesOf 5 (headFor f)) (wordsIn f y0 a) (length-bytes 5 (headFor f)) words i count (omega (arith, length-in f y0 a fits))
 
   pub y0-packed : wordsOf (packedOf f y0 a) 5 (f .n) ≡ y0
   y0-packed = words-packed 5 (f .n) (omega arith) ∙ take-at y0 a (f .n) (fits .long)
@@ -87,7 +88,7 @@ module _ (f : Form) (y0 a : List ℕ) (few : f .n ≤ maxN) (fits : Fits f (leng
   accepts-packed : acceptedOf (packedOf f y0 a) (headOf (headFor f)) ≡ true
   unfolding acceptedOf
   accepts-packed =
-      let long : length (packedOf f y0 a) ≡ lengthFor (field (headFor f) 34 6) = rw (fields-packed .0) length-packed in
+      let long : length (packedOf f y0 a) ≡ lengthFor (field (headFor f) 34 6) = rw (fields-packed .0) (length-packed f y0 a fits) in
       let unused : (eqb (field (headFor f) 6 1) 0 || eqb (wordOf (packedOf f y0 a) 2) 0) ≡ true =
       rw (fields-packed .3, bit-unset (f .automatic), word-packed 2 (omega arith)) (fits .unused) in
       and-passes (eq-eqb _ _ long) (and-passes (eq-eqb _ _ (fields-packed .4)) unused)
@@ -95,7 +96,7 @@ module _ (f : Form) (y0 a : List ℕ) (few : f .n ≤ maxN) (fits : Fits f (leng
   pub read-packed : formRead (packedOf f y0 a) ≡ gives f
   unfolding formRead headRead
   read-packed =
-      let enough : headLength ≤ length (packedOf f y0 a) = omega (arith, length-packed) in
+      let enough : headLength ≤ length (packedOf f y0 a) = omega (arith, length-packed f y0 a fits) in
       let served : field (headFor f) 34 6 ≤ maxN = rw (fields-packed .0) (few) in
       when-false _ _ (le-ltb _ _ enough) ∙ rw head-packed (when-false _ _ (le-ltb _ _ served) ∙ when-true _ _ accepts-packed ∙ rw form-packed)
 
@@ -161,7 +162,7 @@ abbrev Back : List ℕ → Outcome Form → Type 0
 Back s r = (f : Form) → r ≡ gives f → Found s f (wordsOf s 5 (f .n)) (wordsOf s (5 + f .n) (f .n * f .n))
 
 refusal-back : (s : List ℕ) (number : ℕ) → Back s (refuses number)
-refusal-back s number f e = let z : _≡_ {A = ℕ} 0 1 = cc in absurd (omega arith)
+refusal-back s number f e = refuses-nothing e
 
 head-back : (s : List ℕ) → Below 256 s → (w : ℕ) → w ≡ headBits s → headLength ≤ length s → Back s (headRead s (headOf w))
 unfolding headRead formOf

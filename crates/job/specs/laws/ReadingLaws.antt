@@ -18,6 +18,10 @@ use Rattle.job.specs.Types.{maxN}
 use Rattle.job.specs.Packed.{headLength, headBits, headOf, wordsOf, valueOf, doublesOf, lengthFor}
 use Rattle.job.specs.Reading.{acceptedOf, formOf, headRead, formRead, jobOf, placed, readOf}
 
+-- a refusal gives nothing
+pub refuses-nothing : {A B : Type 0} {number : ℕ} {x : B} → refuses number ≡ gives x → A
+refuses-nothing e = let z : _≡_ {A = ℕ} 0 1 = cc in absurd (omega arith)
+
 -- ---- a form that was read
 
 -- a form of at most maxN components, in a file as long as they make it
@@ -29,7 +33,7 @@ abbrev AllServed : List ℕ → Outcome Form → Type 0
 AllServed s r = (f : Form) → r ≡ gives f → Served s f
 
 refusal-serves : (s : List ℕ) (number : ℕ) → AllServed s (refuses number)
-refusal-serves s number f e = let z : _≡_ {A = ℕ} 0 1 = cc in absurd (omega arith)
+refusal-serves s number f e = refuses-nothing e
 
 pub accepted-length : (s : List ℕ) (h : Head) → acceptedOf s h ≡ true → length s ≡ lengthFor (h .n)
 unfolding acceptedOf
@@ -52,7 +56,7 @@ form-serves s = either (AllServed s) (ltb (length s) headLength) (λ _. refusal-
 placed-serves : (s : List ℕ) (r : Outcome Form) (y0 a : List Float) → AllServed s r → (j : Job) → placed s r y0 a .0 ≡ gives j → j .n ≤ maxN
 unfolding jobOf
 placed-serves s (gives f) y0 a serves j e = let same : jobOf f ≡ j = cc in rw (← same) (serves f refl .few)
-placed-serves s (refuses number) y0 a serves j e = let z : _≡_ {A = ℕ} 0 1 = cc in absurd (omega arith)
+placed-serves s (refuses number) y0 a serves j e = refuses-nothing e
 
 pub read-serves : (s : List ℕ) (y0 a : List Float) → (j : Job) → readOf s y0 a .0 ≡ gives j → j .n ≤ maxN
 unfolding readOf

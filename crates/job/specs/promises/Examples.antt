@@ -1,13 +1,11 @@
 -- What the definitions give at document 01's own example and at files that are easily judged wrongly, by computation.
 use mathlib.Core.Path.{_≡_, refl}
-use mathlib.Core.Bool.{true, false}
-use mathlib.Core.List.{List, [], _∷_}
-use Prim.Native.Nat.{ℕ}
+use mathlib.Core.List.{[], _∷_}
 use Rattle.loops.specs.Choice.{if_then_else_}
 use Rattle.loops.specs.Loop.{turns, loop}
 use Rattle.loops.specs.Refusal.{refuses}
 use Rattle.job.specs.Packed.{headBits, headOf}
-use Rattle.job.specs.Reading.{ReadOutcome, acceptedOf, headRead, formRead, readOf}
+use Rattle.job.specs.Reading.{acceptedOf, headRead, formRead, readOf}
 
 -- n 1, 100,000 steps, Newton 4, a given first step: 000001 00011000011010100000 0000100 0 000000
 pub example-head : headOf (headBits (0x04 ∷ 0x61 ∷ 0xA8 ∷ 0x02 ∷ 0x00 ∷ [])) ≡ record { n = 1; «max_steps» = 100000; «newton_maxiter» = 4; automatic = 0; padding = 0 }

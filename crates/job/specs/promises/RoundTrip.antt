@@ -1,10 +1,12 @@
 -- The writer and the reader, for every input (02 §7): reading what was written returns the same bits, writing what was read returns the same
--- bytes, and the writer accepts exactly what the reader accepts as a job.
+-- bytes, and the writer accepts exactly the forms whose files are jobs (`JobFile`). A file that is read and that the solver refuses to begin
+-- with is none: the writer refuses what was read of it by the same number, 5 to 8.
 --
 -- It holds since forms that fit and files that are accepted are one to one (`PackedLaws`), and since both go by the beginning's own checks
--- (`BeginningLaws`). Numbers travel as their 64 bits: no payload of a NaN is lost, and there is no exception.
+-- (`BeginningLaws`). Numbers travel as their 64 bits, so no NaN is an exception.
 use mathlib.Core.Path.{_≡_, refl, sym, ap, _∙_}
 use mathlib.Core.List.{List, [], _++_, map, append-nil}
+use mathlib.Core.Option.{none}
 use Prim.Native.Nat.{ℕ, zero, suc, _+_, _*_, _≤_, _<_}
 use native.Mathlib.Omega.{arith}
 use lib.Dec.{ltb}
@@ -16,17 +18,22 @@ use Rattle.loops.specs.Arithmetic.{+0}
 use Rattle.loops.specs.Refusal.{Outcome, gives, refuses}
 use Rattle.loops.specs.laws.ChoiceLaws.{either, when-true, when-false}
 use Rattle.text.specs.Words.{Below}
+use Rattle.rules.specs.declared.types.Answer.the-variants.{Refused}
+use Rattle.rules.specs.declared.types.Refusal.{Refusal}
 use Rattle.rules.specs.Places.{need}
+use Rattle.rules.specs.Refusals.{numberOf, refusalOf}
+use Rattle.rules.specs.Calls.{beginning}
 use Rattle.job.specs.declared.form.Form.{Form}
+use Rattle.job.specs.declared.reader.Job.{Job}
 use Rattle.job.specs.Types.{maxN}
 use Rattle.job.specs.Packed.{wordsOf, valueOf, lengthFor}
-use Rattle.job.specs.Reading.{FormOutcome, formRead, formPlaced, readFormOf, jobOf}
+use Rattle.job.specs.Reading.{FormOutcome, formRead, formPlaced, readFormOf, jobOf, configurationOf}
 use Rattle.job.specs.Writing.{packedOf, judgedOf, WriteOutcome, writtenOver, writeOf}
-use Rattle.job.specs.JobFile.{Reads, JobFile, OfWords}
-use Rattle.job.specs.laws.ReadingLaws.{values-long}
+use Rattle.job.specs.JobFile.{Reads, Begins, JobFile, OfWords}
+use Rattle.job.specs.laws.ReadingLaws.{refuses-nothing, words-long, values-long}
 use Rattle.job.specs.laws.FitLaws.{Fits, fits-test, test-fits}
 use Rattle.job.specs.laws.PackedLaws.{length-packed, packed-small, read-packed, y0-packed, a-packed, Found, packed-read}
-use Rattle.job.specs.laws.BeginningLaws.{passed-begins, begins-passed}
+use Rattle.job.specs.laws.BeginningLaws.{passed-begins, begins-passed, refused-begins}
 use Rattle.job.specs.laws.JudgedLaws.{Accepted, judged-accepts, accepted-judged}
 
 -- ---- a form that fits is read from its bytes
@@ -62,7 +69,7 @@ placed-held s f y0 a (gives g) is e =
       state = sym (nothing-after _ (f .n)) ∙ (rw same at first) ∙ nothing-after y0 (f .n);
       cells = sym (nothing-after _ (f .n * f .n)) ∙ (rw same at second) ∙ nothing-after a (f .n * f .n);
     }
-placed-held s f y0 a (refuses number) is e = let said = ap (λ (r : FormOutcome). r .0) e in let z : _≡_ {A = ℕ} 0 1 = cc in absurd (omega arith)
+placed-held s f y0 a (refuses number) is e = refuses-nothing (ap (λ (r : FormOutcome). r .0) e)
 
 reads-held : (s : List ℕ) (f : Form) (y0 a : List ℕ) → Reads s f y0 a → Held s f y0 a
 unfolding readFormOf
@@ -78,11 +85,42 @@ reads-found s f y0 a bytes reads =
 pub state-long : (s : List ℕ) (f : Form) (y0 a : List ℕ) → JobFile s f y0 a → length y0 ≡ f .n
 state-long s f y0 a job = reads-found s f y0 a (job .bytes) (job .reads) .fits .long
 
+-- ---- what one call tells
+
+-- one reading tells of all: whatever arrays were lent, y0 and A stand in their first places
+pub read-once :
+    (s y b : List ℕ) (f : Form) → readFormOf s y b .0 ≡ gives f →
+    Reads s f (take (f .n) (readFormOf s y b .1)) (take (f .n * f .n) (readFormOf s y b .2))
+unfolding readFormOf
+read-once s y b f e = placed-once (formRead s) refl e
+  where
+    placed-once :
+        (o : Outcome Form) → formRead s ≡ o → formPlaced s o y b .0 ≡ gives f →
+        Reads s f (take (f .n) (formPlaced s o y b .1)) (take (f .n * f .n) (formPlaced s o y b .2))
+    placed-once (gives g) is t =
+        let n = f .n in
+        let same : g ≡ f = cc in
+        let state : take n (wordsOf s 5 n ++ drop n y) ≡ wordsOf s 5 n = take-at (wordsOf s 5 n) (drop n y) n (words-long s 5 n) in
+        let cells : take (n * n) (wordsOf s (5 + n) (n * n) ++ drop (n * n) b) ≡ wordsOf s (5 + n) (n * n) =
+        take-at (wordsOf s (5 + n) (n * n)) (drop (n * n) b) (n * n) (words-long s (5 + n) (n * n)) in
+        rw same (rw (state, cells) (λ ys bs. ap (λ (r : Outcome Form). formPlaced s r ys bs) (is ∙ ap gives same)))
+    placed-once (refuses number) is t = refuses-nothing t
+
+-- and so does one beginning
+pub begun-once :
+    (job : Job) (y0 ws q : List Float) → length y0 ≡ job .n → job .n ≤ maxN → need (job .n) ≤ length ws → 8 * job .n ≤ length q →
+    refusalOf (beginning (configurationOf job y0) ws q .is .answer) ≡ none → Begins job y0
+begun-once job y0 ws q long few works asks e vs p w k = passed-begins job y0 vs p long few w k (begins-passed job y0 ws q long few works asks e)
+
 -- ---- one file for each form
 
 -- two files that read as the same form with the same y0 and A are the same bytes
 pub one-file : (s t : List ℕ) (f : Form) (y0 a : List ℕ) → Below 256 s → Below 256 t → Reads s f y0 a → Reads t f y0 a → s ≡ t
 one-file s t f y0 a p q d e = sym (reads-found s f y0 a p d .packed) ∙ reads-found t f y0 a q e .packed
+
+-- its bytes are those of the form, also where the solver would refuse it
+pub read-is-packed : (s : List ℕ) (f : Form) (y0 a : List ℕ) → Below 256 s → Reads s f y0 a → packedOf f y0 a ≡ s
+read-is-packed s f y0 a p d = reads-found s f y0 a p d .packed
 
 -- ---- what is read is what is accepted
 
@@ -120,8 +158,8 @@ module _ (f : Form) (y0 a : List ℕ) where
         begins = λ ws q w k. passed-begins (jobOf f) (map valueOf y0) ws q (values-long y0 ∙ fits .long) (h .few) w k (h .begins);
       }
 
-  accepted-length : Accepted f (length y0) (length a) → OfWords f y0 a → length (packedOf f y0 a) ≡ lengthFor (f .n)
-  accepted-length h words = length-packed f y0 a (h .few) (test-fits f (length y0) (length a) (h .fits)) words
+  packed-long : Accepted f (length y0) (length a) → length (packedOf f y0 a) ≡ lengthFor (f .n)
+  packed-long h = length-packed f y0 a (test-fits f (length y0) (length a) (h .fits))
 
 -- ---- writing what was read
 
@@ -129,8 +167,7 @@ module _ (s : List ℕ) (f : Form) (y0 a out : List ℕ) (job : JobFile s f y0 a
   judged-file : judgedOf f (length y0) (length a) ≡ gives (length s)
   judged-file =
       let h = file-accepted f y0 a s job in
-      let found = reads-found s f y0 a (job .bytes) (job .reads) in
-      accepted-judged f (length y0) (length a) (h .0) ∙ ap gives (sym (accepted-length f y0 a (h .0) (found .words)) ∙ ap length (h .1))
+      accepted-judged f (length y0) (length a) (h .0) ∙ ap gives (sym (packed-long f y0 a (h .0)) ∙ ap length (h .1))
 
   -- the same bytes, and what lies after them stays
   pub read-is-written : length s ≤ length out → writeOf f y0 a out ≡ (gives (length s), s ++ drop (length s) out)
@@ -142,6 +179,21 @@ module _ (s : List ℕ) (f : Form) (y0 a out : List ℕ) (job : JobFile s f y0 a
   unfolding writeOf
   read-has-no-room short = rw judged-file (when-true _ _ (lt-ltb _ _ short))
 
+-- and what the solver refuses to begin with is not written: it is refused by the same number
+pub refused-alike :
+    (s : List ℕ) (f : Form) (y0 a out : List ℕ) (ws q : List Float) (why : Refusal) → Below 256 s → Reads s f y0 a → need (f .n) ≤ length ws →
+    8 * f .n ≤ length q → beginning (configurationOf (jobOf f) (map valueOf y0)) ws q .is .answer ≡ Refused why →
+    writeOf f y0 a out ≡ (refuses (numberOf why), out)
+unfolding writeOf judgedOf jobOf
+refused-alike s f y0 a out ws q why bytes reads works asks e =
+    let found = reads-found s f y0 a bytes reads in
+    let long : length (map valueOf y0) ≡ f .n = values-long y0 ∙ found .fits .long in
+    let judged : judgedOf f (length y0) (length a) ≡ refuses (numberOf why) =
+    when-false _ _ (le-ltb _ _ (found .few))
+    ∙ when-true _ _ (fits-test f (length y0) (length a) (found .fits))
+    ∙ refused-begins (jobOf f) (map valueOf y0) ws q long (found .few) works asks why (lengthFor (f .n)) e in
+    ap (λ (o : Outcome ℕ). writtenOver (packedOf f y0 a) o out) judged
+
 -- ---- reading what was written
 
 -- an outcome that writes k bytes: they are a job, the form with y0 and A, and what lies after them stays
@@ -151,7 +203,7 @@ WritesJob f y0 a out r =
 
 module _ (f : Form) (y0 a out : List ℕ) (words : OfWords f y0 a) where
   refusal-writes : (number : ℕ) → WritesJob f y0 a out (refuses number, out)
-  refusal-writes number k e = let z : _≡_ {A = ℕ} 0 1 = cc in absurd (omega arith)
+  refusal-writes number k e = refuses-nothing e
 
   over-writes : (o : Outcome ℕ) → judgedOf f (length y0) (length a) ≡ o → WritesJob f y0 a out (writtenOver (packedOf f y0 a) o out)
   over-writes (refuses number) is = refusal-writes number
@@ -159,7 +211,7 @@ module _ (f : Form) (y0 a out : List ℕ) (words : OfWords f y0 a) where
       either (WritesJob f y0 a out) (ltb (length out) long) (λ _. refusal-writes 25)
       (λ room k e.
       let accepted = judged-accepts f (length y0) (length a) long is in
-      let size : length (packedOf f y0 a) ≡ long = accepted-length f y0 a (accepted .0) words ∙ sym (accepted .1) in
+      let size : length (packedOf f y0 a) ≡ long = packed-long f y0 a (accepted .0) ∙ sym (accepted .1) in
       let enough : long ≤ length out = ltb-false _ _ room in
       let all : k ≡ long = cc in
       rw all (
@@ -182,11 +234,11 @@ abbrev pub IsRead : Form → List ℕ → List ℕ → Type 0
 IsRead f y0 a = (s : List ℕ) × JobFile s f y0 a
 
 module _ (f : Form) (y0 a : List ℕ) where
-  pub what-is-written-is-read : OfWords f y0 a → IsWritten f y0 a → IsRead f y0 a
-  what-is-written-is-read words w = (take (w .1 .0) (writeOf f y0 a (w .0) .1), written-is-read f y0 a (w .0) words (w .1 .0) (w .1 .1) .0)
+  pub accepts-only-jobs : OfWords f y0 a → IsWritten f y0 a → IsRead f y0 a
+  accepts-only-jobs words w = (take (w .1 .0) (writeOf f y0 a (w .0) .1), written-is-read f y0 a (w .0) words (w .1 .0) (w .1 .1) .0)
 
-  pub what-is-read-is-written : IsRead f y0 a → IsWritten f y0 a
-  what-is-read-is-written r = (r .0, (length (r .0), ap (λ (o : WriteOutcome). o .0) (read-is-written (r .0) f y0 a (r .0) (r .1) (omega arith))))
+  pub accepts-every-job : IsRead f y0 a → IsWritten f y0 a
+  accepts-every-job r = (r .0, (length (r .0), ap (λ (o : WriteOutcome). o .0) (read-is-written (r .0) f y0 a (r .0) (r .1) (omega arith))))
 
 -- ---- a refusal writes nothing
 

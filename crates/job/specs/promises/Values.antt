@@ -3,7 +3,6 @@
 use mathlib.Core.Path.{_≡_, refl, sym, ap}
 use mathlib.Core.List.{List, _++_, map}
 use Prim.Native.Nat.{ℕ, _+_, _*_}
-use native.Mathlib.Omega.{arith}
 use lib.ListN.{take, drop}
 use lib.Seq.{take-at}
 use lib.Ieee.{Float}
@@ -14,7 +13,7 @@ use Rattle.job.specs.declared.reader.Job.{Job}
 use Rattle.job.specs.JobFile.{Begins, JobFile}
 use Rattle.job.specs.Packed.{wordsOf, valueOf, doublesOf}
 use Rattle.job.specs.Reading.{FormOutcome, formRead, formPlaced, readFormOf, ReadOutcome, jobOf, placed, readOf}
-use Rattle.job.specs.laws.ReadingLaws.{words-long, doubles-long}
+use Rattle.job.specs.laws.ReadingLaws.{refuses-nothing, words-long, doubles-long}
 
 -- what was read by its bits, each number by its value: y0 and A go to the first places of their arrays
 abbrev pub valued : FormOutcome → List Float → List Float → ReadOutcome
@@ -58,7 +57,7 @@ module _ (s : List ℕ) (bytes : Below 256 s) (y b : List Float) (job : Job) whe
           ),
         ),
       )
-  placed-is-job (refuses number) is e begins = let z : _≡_ {A = ℕ} 0 1 = cc in absurd (omega arith)
+  placed-is-job (refuses number) is e begins = refuses-nothing e
 
   pub read-is-a-job : readOf s y b .0 ≡ gives job → Begins job (take (job .n) (readOf s y b .1)) → IsJob s
   unfolding readOf

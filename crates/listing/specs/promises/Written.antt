@@ -1,5 +1,6 @@
 -- What the writer writes, the job program runs (02 §7): for a file that is a job its output is never a refusal, but the lines of a run that
--- ends. `written-is-read` (`job`) says that what the writer wrote is such a file.
+-- ends. `written-is-read` (`job`) says that what the writer wrote is such a file. And a file that the job program reads, and whose run the
+-- solver does not refuse to begin, is a job: `read-is-written` says that the writer writes it.
 --
 -- It holds since the job program reads the file's numbers as the values of their bits (`read-is-valued`), and the solver does not refuse to
 -- begin with them.
@@ -11,7 +12,8 @@ use native.Mathlib.Omega.{arith}
 use lib.ListN.{length, take, drop, replicate, length-replicate}
 use lib.Seq.{take-at}
 use Rattle.loops.specs.Arithmetic.{+0}
-use Rattle.loops.specs.Refusal.{gives, refuses}
+use Rattle.loops.specs.Refusal.{gives}
+use Rattle.text.specs.Words.{Below}
 use Rattle.text.specs.laws.Fronts.{squared}
 use Rattle.matrix.specs.Size.{maxN}
 use Rattle.rules.specs.Places.{need}
@@ -20,12 +22,13 @@ use Rattle.job.specs.declared.form.Form.{Form}
 use Rattle.job.specs.Packed.{valueOf}
 use Rattle.job.specs.Reading.{FormOutcome, ReadOutcome, jobOf}
 use Rattle.job.specs.JobFile.{JobFile}
-use Rattle.job.specs.laws.ReadingLaws.{values-long, read-serves}
-use Rattle.job.specs.promises.RoundTrip.{state-long}
-use Rattle.job.specs.promises.Values.{valued, read-is-valued}
+use Rattle.job.specs.laws.ReadingLaws.{refuses-nothing, values-long, read-serves}
+use Rattle.job.specs.promises.RoundTrip.{begun-once, state-long}
+use Rattle.job.specs.promises.Values.{valued, read-is-valued, IsJob, read-is-a-job}
+use Rattle.listing.specs.Types.{Job}
 use Rattle.listing.specs.Printed.{blankWork, blankQuestion, reading, printed}
 use Rattle.listing.specs.Telling.{Ran}
-use Rattle.listing.specs.promises.Whole.{Whole, no-job, not-begun, ran, configured, beginningOf, printed-is-whole}
+use Rattle.listing.specs.promises.Whole.{Whole, no-job, not-begun, ran, configured, beginningOf, printed-is-whole, with-components}
 
 module _ (s : List ℕ) (f : Form) (y0 a : List ℕ) (job : JobFile s f y0 a) where
   -- what is read of the file
@@ -60,9 +63,7 @@ module _ (s : List ℕ) (f : Form) (y0 a : List ℕ) (job : JobFile s f y0 a) wh
     where
       by-whole : Whole (reading s) (printed s) → Ran (configured (reading s) (jobOf f)) (reading s .2) (beginningOf (reading s) (jobOf f)) [] (printed s)
       by-whole (no-job number e l) =
-          let both : refuses number ≡ gives (jobOf f) = sym e ∙ job-read in
-          let z : _≡_ {A = ℕ} 0 1 = cc in
-          absurd (omega arith)
+          refuses-nothing (sym e ∙ job-read)
       by-whole (not-begun j why e says l) =
           let both : gives j ≡ gives (jobOf f) = sym e ∙ job-read in
           let same : j ≡ jobOf f = cc in
@@ -72,3 +73,14 @@ module _ (s : List ℕ) (f : Form) (y0 a : List ℕ) (job : JobFile s f y0 a) wh
           let both : gives j ≡ gives (jobOf f) = sym e ∙ job-read in
           let same : j ≡ jobOf f = cc in
           rw same at r
+
+-- ---- and back
+
+pub runs-are-jobs :
+    (s : List ℕ) → Below 256 s → (j : Job) → reading s .0 ≡ gives j → refusalOf (beginningOf (reading s) j .is .answer) ≡ none → IsJob s
+runs-are-jobs s bytes j e free =
+    let n = j .n in
+    let few : n ≤ maxN = read-serves s _ _ j e in
+    let works : need n ≤ length blankWork = omega (arith, length-replicate (need maxN) +0, squared n maxN few, few) in
+    let asks : 8 * n ≤ length blankQuestion = omega (arith, length-replicate (8 * maxN) +0, few) in
+    read-is-a-job s bytes _ _ j e (begun-once j (take n (reading s .1)) blankWork blankQuestion (with-components s j e) few works asks free)

@@ -37,25 +37,25 @@ module _ (s : List ℕ) {r : FormReading} (is : formReadingOf r ≡ formRead s) 
 
 words-requires : tie.Need-words-requires
 words-requires c κs =
-    let h = served _ (c .before .before .before .before .form-in .ensures) _ (c .before .before .f .given .1) in
+    let h = served _ (c .before .before .before .before .form-read .ensures) _ (c .before .before .f .given .1) in
     (omega (arith, h .few, h .long), omega (arith, h .few))
 
 add-words : tie.Need-add-words
-add-words c = omega (arith, served _ (c .before .before .before .before .before .form-in .ensures) _ (c .before .before .before .f .given .1) .few)
+add-words c = omega (arith, served _ (c .before .before .before .before .before .form-read .ensures) _ (c .before .before .before .f .given .1) .few)
 
 mul-words : tie.Need-mul-words
-mul-words c = omega (arith, square _ (c .before .before .before .before .before .form-in .ensures) _ (c .before .before .before .f .given .1))
+mul-words c = omega (arith, square _ (c .before .before .before .before .before .form-read .ensures) _ (c .before .before .before .f .given .1))
 
 words-requires-2 : tie.Need-words-requires-2
 words-requires-2 c κs =
-    let h = served _ (c .before .before .before .before .before .before .form-in .ensures) _ (c .before .before .before .before .f .given .1) in
-    (omega (arith, h .long), omega (arith, square _ (c .before .before .before .before .before .before .form-in .ensures) _ (c .before .before .before .before .f .given .1)))
+    let h = served _ (c .before .before .before .before .before .before .form-read .ensures) _ (c .before .before .before .before .f .given .1) in
+    (omega (arith, h .long), omega (arith, square _ (c .before .before .before .before .before .before .form-read .ensures) _ (c .before .before .before .before .f .given .1)))
 
 returns : tie.Need-returns
-returns c = a-form _ (c .before .before .before .before .before .before .before .form-in .ensures) _ _ _ (c .before .before .before .before .before .f .given .1) (c .before .before .words .ensures) (c .words2 .ensures)
+returns c = a-form _ (c .before .before .before .before .before .before .before .form-read .ensures) _ _ _ (c .before .before .before .before .before .f .given .1) (c .before .before .words .ensures) (c .words2 .ensures)
 
 returns-2 : tie.Need-returns-2
-returns-2 c = a-refusal _ (c .before .before .before .form-in .ensures) _ _ _ (c .before .number .given .1)
+returns-2 c = a-refusal _ (c .before .before .before .form-read .ensures) _ _ _ (c .before .number .given .1)
 
 pub read-form-spec : {M : Type 1} → statement M
 read-form-spec =

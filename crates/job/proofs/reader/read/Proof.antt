@@ -39,25 +39,25 @@ module _ (s : List ℕ) {r : FormReading} (is : formReadingOf r ≡ formRead s) 
 
 doubles-requires : tie.Need-doubles-requires
 doubles-requires c κs =
-    let h = served _ (c .before .before .before .before .form-in .ensures) _ (c .before .before .f .given .1) in
+    let h = served _ (c .before .before .before .before .form-read .ensures) _ (c .before .before .f .given .1) in
     (omega (arith, h .few, h .long), omega (arith, h .few))
 
 add-doubles : tie.Need-add-doubles
-add-doubles c = omega (arith, served _ (c .before .before .before .before .before .form-in .ensures) _ (c .before .before .before .f .given .1) .few)
+add-doubles c = omega (arith, served _ (c .before .before .before .before .before .form-read .ensures) _ (c .before .before .before .f .given .1) .few)
 
 mul-doubles : tie.Need-mul-doubles
-mul-doubles c = omega (arith, square _ (c .before .before .before .before .before .form-in .ensures) _ (c .before .before .before .f .given .1))
+mul-doubles c = omega (arith, square _ (c .before .before .before .before .before .form-read .ensures) _ (c .before .before .before .f .given .1))
 
 doubles-requires-2 : tie.Need-doubles-requires-2
 doubles-requires-2 c κs =
-    let h = served _ (c .before .before .before .before .before .before .form-in .ensures) _ (c .before .before .before .before .f .given .1) in
-    (omega (arith, h .long), omega (arith, square _ (c .before .before .before .before .before .before .form-in .ensures) _ (c .before .before .before .before .f .given .1)))
+    let h = served _ (c .before .before .before .before .before .before .form-read .ensures) _ (c .before .before .before .before .f .given .1) in
+    (omega (arith, h .long), omega (arith, square _ (c .before .before .before .before .before .before .form-read .ensures) _ (c .before .before .before .before .f .given .1)))
 
 returns : tie.Need-returns
-returns c = a-job _ (c .before .before .before .before .before .before .before .before .form-in .ensures) _ _ _ (c .before .before .before .before .before .before .f .given .1) (c .before .before .before .doubles .ensures) (c .before .doubles2 .ensures) (c .job-of .ensures)
+returns c = a-job _ (c .before .before .before .before .before .before .before .before .form-read .ensures) _ _ _ (c .before .before .before .before .before .before .f .given .1) (c .before .before .before .doubles .ensures) (c .before .doubles2 .ensures) (c .job-of .ensures)
 
 returns-2 : tie.Need-returns-2
-returns-2 c = a-refusal _ (c .before .before .before .form-in .ensures) _ _ _ (c .before .number .given .1)
+returns-2 c = a-refusal _ (c .before .before .before .form-read .ensures) _ _ _ (c .before .number .given .1)
 
 pub read-spec : {M : Type 1} → statement M
 read-spec =

@@ -1,7 +1,7 @@
 -- `text::page::spell` meets its contract. The invariant: what is left to write, on the bytes as they are, comes to what was to
 -- be written at the start. The measure is how many digits are left. Assumes nothing.
 use mathlib.Core.Path.{_≡_, refl, sym, _∙_}
-use Prim.Native.Nat.{_≤_, _-_}
+use Prim.Native.Nat.{_≤_}
 use native.Mathlib.Nat.{mod-lt}
 use native.Mathlib.Omega.{arith}
 use lib.ListN.{length, length-set}

@@ -1,4 +1,4 @@
--- `form::form_in` meets its contract: each refusal is the definition's, in the same order. Assumes nothing.
+-- `form::form_read` meets its contract: each refusal is the definition's, in the same order. Assumes nothing.
 use mathlib.Core.Path.{_≡_, sym, ap, _∙_}
 use mathlib.Core.Bool.{Bool, true, false, not}
 use mathlib.Core.List.{List}
@@ -15,8 +15,8 @@ use Rattle.job.specs.Types.{maxN}
 use Rattle.job.specs.Packed.{headLength, headBits, headOf}
 use Rattle.job.specs.Reading.{acceptedOf, formOf, headRead, formRead}
 use Rattle.job.specs.laws.ReadingLaws.{accepted-length}
-use Rattle.job.proofs.form.form_in.Statement.{statement}
-use Rattle.job.proofs.form.form_in.Tie as tie
+use Rattle.job.proofs.form.form_read.Statement.{statement}
+use Rattle.job.proofs.form.form_read.Tie as tie
 
 module _ (s : List ℕ) where
   too-short : length s < headLength → _≡_ {A = Outcome Form} (refuses 17) (formRead s)
@@ -56,5 +56,5 @@ form-of-requires c κs = let long = accepted-length _ _ (sym (c .before .accepte
 returns-4 : tie.Need-returns-4
 returns-4 c = a-job _ _ (c .before .before .before .before .before .head-of .ensures) (c .before .before .before .before .before .before .if1 .left) (c .before .before .before .if2 .left) (c .before .before .accepted .ensures) (c .before .if3 .left) (c .form-of .ensures)
 
-pub form-in-spec : {M : Type 1} → statement M
-form-in-spec = tie.close (tie.spec returns (λ c κs. search needs) returns-2 (λ c κs. search needs) returns-3 form-of-requires returns-4)
+pub form-read-spec : {M : Type 1} → statement M
+form-read-spec = tie.close (tie.spec returns (λ c κs. search needs) returns-2 (λ c κs. search needs) returns-3 form-of-requires returns-4)
