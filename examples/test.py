@@ -313,13 +313,28 @@ class Saving(unittest.TestCase):
         self.assertEqual(self.files(), {self.text: FIRST.encode(), self.job: first().packed()})
 
     def test_permissions(self):
+        """Those of the older file stay; a new file has those that any new one has."""
         for mask, mode in ((0o022, 0o644), (0o077, 0o600), (0o002, 0o664)):
-            old = os.umask(mask)
-            try:
-                self.made()
-            finally:
-                os.umask(old)
-            self.assertEqual(stat.S_IMODE(self.job.stat().st_mode), mode)
+            self.assertEqual(self.mode_when_made(mask), mode)
+            for older in (0o600, 0o640, 0o644, 0o666):
+                self.job.chmod(older)
+                self.assertEqual(self.mode_when_made(mask), older)
+            self.job.unlink()
+
+    def mode_when_made(self, mask):
+        before = os.umask(mask)
+        try:
+            self.made()
+        finally:
+            os.umask(before)
+        return stat.S_IMODE(self.job.stat().st_mode)
+
+    def test_permissions_come_before_the_bytes(self):
+        self.job.write_bytes(b"older")
+        seen = []
+        with mock.patch("shutil.copymode", lambda _, part: seen.append(Path(part).read_bytes())):
+            self.made()
+        self.assertEqual(seen, [b""])
 
     def test_from_a_packed_file(self):
         other = self.folder / "other.job"
@@ -343,7 +358,7 @@ class Saving(unittest.TestCase):
         for before in (None, b"older"):
             if before:
                 self.job.write_bytes(before)
-            for place in ("os.fsync", "os.replace"):
+            for place in ("os.fsync", "os.replace", *(("shutil.copymode",) if before else ())):
                 with mock.patch(place, side_effect=full):
                     self.not_made("a.job: it was not saved: No space left on device")
             with mock.patch("job.open", self.opened_to_fail, create=True):
