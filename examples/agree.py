@@ -1,16 +1,22 @@
 #!/usr/bin/env python3
-"""agree.py WRITE_JOB RUN_JOB COUNT SEED: puts forms to the proved writer of job files, to packed.py and to the job program, and
-compares what they make of them.
+"""agree.py WRITE_JOB RUN_JOB COUNT SEED: puts forms to the proved writer of job files, to packed.py, to job.py and to the job
+program, and compares what they make of them.
 
 Every form goes to the writer and to packed.py: both refuse it by the same number, or both make the same bytes of it, and nothing
 else in the slice that is lent changes. What was written is read and written again, to the same bytes. The job program refuses none
-of it; what is refused, as far as bytes can say it, it refuses by the same number. As a text the form comes to the same. Damaged files
-are put to all three as well. Each bound and every two refusals are put once, and COUNT forms and half as many files at random.
+of it; what is refused, as far as bytes can say it, it refuses by the same number. As a text, as far as one can say it, the form comes
+to the same. Damaged files are put to all but job.py as well. Each bound and every two refusals are put once, and COUNT forms and half as
+many files at random.
+
+Each bound and every two refusals are also made by `job.py make` from their texts, in a folder of their own: it leaves a file of the same
+bytes, or refuses by the same number and leaves no file, or an older one as it was.
 
 Prints a table. Exit status 1 where one differs: the first that does is kept below target/agree/ with what each said; 2 where it could
 not be run.
 """
+import contextlib
 import functools
+import io
 import itertools
 import os
 import random
@@ -18,16 +24,19 @@ import re
 import shutil
 import subprocess
 import sys
+import tempfile
 from pathlib import Path
 
 sys.dont_write_bytecode = True
 
 import forms
+import job
 import packed
 
 SAME, DIFFERING, NOT_RUN = 0, 1, 2
 BATCH = 500  # cases for one process of the writer
 UNTOUCHED = b"\xa5"  # what every byte of a slice is before the call
+OLDER = b"an older file"
 PATIENCE = 300  # seconds
 NO_CASE = "streams that are no cases"
 ROOM = Path(__file__).resolve().parent.parent / "target" / "agree"
@@ -60,6 +69,7 @@ class Case:
         self.number, self.data = number, data
         self.file = data  # what is put to the job program
         self.text = None
+        self.made = False  # whether the text is also made by job.py
 
     def answer(self):
         """What the writer is to say, and the slice as it is to stand then. That a slice is too short is looked at last."""
@@ -72,10 +82,25 @@ class Case:
         """What the job program is to say of the file."""
         return f"R {self.number}" if self.number else "E"
 
+    def told(self):
+        """What packed.py is to say of the text, where it refuses it."""
+        return f"R {self.number}, with its line"
+
+    def left(self, older):
+        """What job.py is to say of the text, and the file that it is to leave where there was an older one, or none."""
+        if self.number is None:
+            return f"exit status {job.FINISHED}", ("t.job", self.data)
+        return (self.told(),) if older is None else (self.told(), ("t.job", older))
+
 
 def cases(draw, count):
-    for row, form, room in itertools.chain(forms.each_bound(draw), forms.each_two(draw), forms.some_forms(draw, count)):
-        yield of_form(f"forms: {row}", form, room, draw.choice((packed.written, forms.by_its_digits)))
+    spellings = (packed.written, forms.by_its_digits)
+    for row, form, room in itertools.chain(forms.each_bound(draw), forms.each_two(draw)):
+        case = of_form(f"forms: {row}", form, room, draw.choice(spellings))
+        case.made = case.text is not None
+        yield case
+    for row, form, room in forms.some_forms(draw, count):
+        yield of_form(f"forms: {row}", form, room, draw.choice(spellings))
     for row, data, room in forms.some_files(draw, count // 2):
         yield of_file(f"files: {row}", data, room)
 
@@ -132,6 +157,8 @@ def compare(writer, runner, every):
 
 def written(writer, streams, rooms):
     """The writer's line and slice for each case; "no answer" from the first on that it did not answer."""
+    if not rooms:
+        return []
     output = put(writer, b"".join(streams))
     answers, at = [], 0
     for i, room in enumerate(rooms):
@@ -147,12 +174,14 @@ def written(writer, streams, rooms):
 
 
 def put(program, data):
-    """What a program prints."""
+    """What a program prints, and then how it ended where that is not by exit status 0."""
     try:
         done = subprocess.run([program], input=data, stdout=subprocess.PIPE, timeout=PATIENCE)
     except subprocess.TimeoutExpired:
         return b"still running\n"
-    return done.stdout + (b"ended by a signal\n" if done.returncode < 0 else b"")
+    if done.returncode < 0:
+        return done.stdout + b"ended by a signal\n"
+    return done.stdout + (b"exit status %d\n" % done.returncode if done.returncode else b"")
 
 
 @functools.lru_cache(maxsize=BATCH)
@@ -174,7 +203,10 @@ def said_by_each(case, said, back, runner):
     if case.file is not None:
         compared.append(("RUN_JOB", ran(runner, case.file), case.run()))
     if case.text is not None:
-        compared.append(("packed.py of the text", of_text(case.text), case.data if case.number is None else f"R {case.number}, with its line"))
+        compared.append(("packed.py of the text", of_text(case.text), case.data if case.number is None else case.told()))
+    if case.made:
+        compared.append(("job.py make", made(case.text, None), case.left(None)))
+        compared.append(("job.py make over an older file", made(case.text, OLDER), case.left(OLDER)))
     return compared
 
 
@@ -187,8 +219,28 @@ def of_text(text):
     try:
         return packed.to_save(packed.of_text(text, "t"), "t")
     except packed.Wrong as wrong:
-        line = "with its line" if re.match("t, line [0-9]+: ", str(wrong)) else "without a line"
-        return f"R {wrong.number}, {line}" if wrong.number else str(wrong)
+        return told(wrong, "t")
+
+
+def told(wrong, name):
+    line = "with its line" if re.match(re.escape(name) + ", line [0-9]+: ", str(wrong)) else "without a line"
+    return f"R {wrong.number}, {line}" if wrong.number else str(wrong)
+
+
+@functools.lru_cache(maxsize=BATCH)
+def made(text, older):
+    """What `job.py make` says of a text, and every file that is beside it afterwards, with its bytes."""
+    with tempfile.TemporaryDirectory() as folder:
+        source, to = Path(folder, "t"), Path(folder, "t.job")
+        source.write_bytes(text.encode())
+        if older is not None:
+            to.write_bytes(older)
+        try:
+            with contextlib.redirect_stdout(io.StringIO()):
+                said = f"exit status {job.make(str(source), str(to))}"
+        except packed.Wrong as wrong:
+            said = told(wrong, str(source))
+        return (said, *((path.name, path.read_bytes()) for path in sorted(Path(folder).iterdir()) if path != source))
 
 
 def keep(case, compared):
@@ -218,42 +270,43 @@ def shown(what):
 
 
 def streams_that_are_no_cases(writer):
-    """Each has a good case before it, which is answered; then comes X, and nothing more."""
+    """Each has a good case before it, which is answered; then comes X, and nothing more. Of an empty stream nothing is printed."""
     good = words([0, 0, 33] + [0] * 10)
     head = [0, 0, 1, 1, 4, 0, 0, 0, 0, 0, 0]
     unfit = [words([2, 0]), words([forms.MOST]), words([0, 8_801] + [0] * 11), words([0, 0, 0, 0, 0, 2] + [0] * 7), words([1, 8_801, 0])]
     unfit += [words(head + [65, 0] + [0] * 65), words(head + [0, 1_101] + [0] * 1_101), words([1, 0, 8_801] + [0] * 1_101)]
     unfit += [words(head[:5]), words(head + [1, 1, 0]), words([1, 0, 9, 0]), words([1]), b"\0\0\0"]
     row = Row()
-    for stream in unfit:
-        compared = [("WRITE_JOB", repr(put(writer, good + stream)), repr(b"R 1\nX\n"))]
-        row.forms += 1
+    for stream, answer in [(b"", b"")] + [(good + stream, b"R 1\nX\n") for stream in unfit]:
+        compared = [("WRITE_JOB", repr(put(writer, stream)), repr(answer))]
+        row.put += 1
         row.differing += differs(compared)
         if differs(compared):
-            keep(Case(NO_CASE, good + stream, 0, None, None), compared)
+            keep(Case(NO_CASE, stream, 0, None, None), compared)
     return row
 
 
 class Row:
     """How many were put, how often each answer was expected, and how many differ."""
 
-    COLUMNS = ("count", "R 1", "R 5..8", "R 17", "R 25", "written", "run", "texts", "differing")
+    COLUMNS = ("count", "R 1", "R 5..8", "R 17", "R 25", "written", "run", "texts", "made", "differing")
 
     def __init__(self):
-        self.forms = self.files = self.texts = self.differing = 0
+        self.put = self.files = self.texts = self.made = self.differing = 0
         self.answers = {}
 
     def count(self, case, differing):
         answer = case.answer()[0]
         kind = "R 5..8" if answer in ("R 5", "R 6", "R 7", "R 8") else "written" if answer[0] == "W" else answer
         self.answers[kind] = self.answers.get(kind, 0) + 1
-        self.forms += 1
+        self.put += 1
         self.files += case.file is not None
         self.texts += case.text is not None
+        self.made += case.made
         self.differing += differing
 
     def fields(self):
-        return [self.forms, *(self.answers.get(kind, 0) for kind in self.COLUMNS[1:6]), self.files, self.texts, self.differing]
+        return [self.put, *(self.answers.get(kind, 0) for kind in self.COLUMNS[1:6]), self.files, self.texts, self.made, self.differing]
 
 
 def print_table(rows):

@@ -33,7 +33,8 @@ BOUNDS = {
     "atol": TOLERANCES,
     "first_step": (0, SIGN),
 }
-# Those that a file can say. A million steps is left out: with a bit turned such a job could run on and on.
+# Those that a file can say. A million steps is left out. A turned bit can still make many, but then the numbers are ordinary ones, save one
+# that is at its bound, and the run ends long before.
 UNREADY = {
     "max_steps": (0, 1, 1_000_001, (1 << 20) - 1),
     "newton_maxiter": (0, 1, 64, 65, 127),
@@ -172,7 +173,7 @@ def some_files(random, count):
 
 def damaged_file(random, data):
     cut, at = random.randrange(len(data)), random.randrange(8 * len(data))
-    more = bytes(random.getrandbits(8) for _ in range(random.choice((1, 1, 7, 8, random.randint(1, 100)))))
+    more = any_bytes(random, random.choice((1, 1, 7, 8, random.randint(1, 100))))
     padding = data[4] | random.randint(1, 63)
     above = random.randint(33, 63) << 2 | data[0] & 3
     beside = random.choice((SIGN, 1, random.getrandbits(64) | 1)).to_bytes(8, "big")
@@ -186,9 +187,21 @@ def damaged_file(random, data):
             ("unused first_step", data[:4] + bytes([data[4] | 64]) + data[5:21] + beside + data[29:]),
             ("a bit flipped", flipped(data, at)),
             ("a bit of the head", flipped(data, at % 40)),
-            ("any bytes", bytes(random.getrandbits(8) for _ in range(8 * random.randrange(90) + random.choice((0, 4, 6))))),
+            ("any bytes", any_bytes(random, 8 * random.randrange(90) + random.choice((0, 4, 6)))),
+            ("any bytes", after_a_head(random)),
         )
     )
+
+
+def any_bytes(random, count):
+    return bytes(random.getrandbits(8) for _ in range(count))
+
+
+def after_a_head(random):
+    """Any bytes after the head of a job, as many as it says, with few steps and no padding bit in it: some of these are jobs, and run."""
+    n = random.choice((0, 1, 2, 3, random.randrange(10)))
+    head = ((n << 20 | random.randint(0, FEW)) << 7 | random.randrange(80)) << 7 | random.getrandbits(1) << 6
+    return head.to_bytes(5, "big") + any_bytes(random, length(n) - 5)
 
 
 def flipped(data, at):

@@ -1,7 +1,8 @@
 #!/usr/bin/env python3
 """Jobs as text, packed, run and drawn. Wants Python 3.8 or later and nothing else.
 
-  job.py make TEXT|JOB JOB                packs a text into a job file, whole or not at all; what would be refused is not saved
+  job.py make TEXT|JOB JOB                packs a text, or a job file anew, into a job file, whole or not at all; what would be
+                                          refused is not saved
   job.py show JOB                         shows a job file as text; packed again it is the same file
   job.py run PROGRAM TEXT|JOB [PICTURE]   runs it, says how it ended, prints a table, draws the picture (SVG)
   job.py read LINES TEXT|JOB [PICTURE]    the same for lines that the job program printed earlier
@@ -13,6 +14,7 @@ import contextlib
 import os
 import secrets
 import shlex
+import shutil
 import subprocess
 import sys
 
@@ -61,16 +63,21 @@ def make(source, to):
 
 def save(data, path):
     """Puts a file in its place whole: it is made beside it under another name, and renamed when all of it is on the disk. Until
-    then an older file stays as it was, and whatever goes wrong, nothing is left beside it.
+    then an older file stays as it was. Where it fails, the other file is taken away; only a process that is killed can leave it, and
+    never under the job's name.
 
-    A link stays a link: the file that it points to is the one that is replaced."""
+    A link stays a link: the file that it points to is the one that is replaced. An older file's permissions stay; where there was
+    none, the file has those of any new one."""
     to = os.path.realpath(path)
-    if os.path.lexists(to):
+    older = os.path.lexists(to)
+    if older:
         refuse_to_replace(to, path)
     part = os.path.join(os.path.dirname(to), f".job-{secrets.token_hex(8)}.part")
     file = open(part, "xb")  # never one that is already there
     try:
         with file:
+            if older:
+                shutil.copymode(to, part)  # while there is nothing in it to read
             file.write(data)
             file.flush()
             os.fsync(file.fileno())
