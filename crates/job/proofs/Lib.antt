@@ -1,2 +1,3 @@
 -- What the proofs of several functions cite.
 mod Loading
+mod Serving

@@ -137,13 +137,12 @@ module _ (f : Form) (y0 a : List ℕ) where
   file-accepted s h =
       let found = reads-found s f y0 a (h .bytes) (h .reads) in
       let long : length (map valueOf y0) ≡ f .n = values-long y0 ∙ found .fits .long in
-      let begins = h .begins works asks (omega (arith, length-replicate (need (f .n)) +0)) (omega (arith, length-replicate (8 * f .n) +0)) in (
+      let enough : need (f .n) ≤ length works = omega (arith, length-replicate (need (f .n)) +0) in
+      let also : 8 * f .n ≤ length asks = omega (arith, length-replicate (8 * f .n) +0) in (
         record {
           few = found .few;
           fits = fits-test f (length y0) (length a) (found .fits);
-          begins =
-              begins-passed (jobOf f) (map valueOf y0) works asks long (found .few) (omega (arith, length-replicate (need (f .n)) +0))
-              (omega (arith, length-replicate (8 * f .n) +0)) begins;
+          begins = begins-passed (jobOf f) (map valueOf y0) works asks long (found .few) enough also (h .begins works asks enough also);
         },
         found .packed,
       )

@@ -1,9 +1,8 @@
 -- `reader::read` meets its contract: a form that was read has at most as many components as the arrays hold, and its file is long enough
--- for y0 and A (`form-serves`). Assumes nothing.
+-- for y0 and A (`served`). Assumes nothing.
 use mathlib.Core.Path.{_≡_, sym, ap, _∙_}
 use mathlib.Core.List.{List, _++_}
-use Prim.Native.Nat.{ℕ, _+_, _*_, _≤_}
-use native.Mathlib.Nat.{mul-le-mul}
+use Prim.Native.Nat.{ℕ, _+_, _*_}
 use native.Mathlib.Omega.{arith}
 use lib.ListN.{drop}
 use lib.Ieee.{Float}
@@ -15,17 +14,11 @@ use Rattle.job.specs.declared.form.FormReading.the-variants.{Read, Refus
 use Rattle.job.specs.declared.reader.Job.{Job}
 use Rattle.job.specs.Packed.{doublesOf}
 use Rattle.job.specs.Reading.{ReadOutcome, formRead, formReadingOf, jobOf, placed, readOf}
-use Rattle.job.specs.laws.ReadingLaws.{Served, form-serves}
+use Rattle.job.proofs.Serving.{served, square}
 use Rattle.job.proofs.reader.read.Statement.{statement}
 use Rattle.job.proofs.reader.read.Tie as tie
 
 module _ (s : List ℕ) {r : FormReading} (is : formReadingOf r ≡ formRead s) where
-  served : (f : Form) → r ≡ Read f → Served s f
-  served f e = form-serves s f (sym is ∙ ap formReadingOf e)
-
-  square : (f : Form) → r ≡ Read f → f .n * f .n ≤ 1024
-  square f e = mul-le-mul (served f e .few) (served f e .few)
-
   module _ (y0 a : List Float) where
     a-job :
         (f : Form) {j : Job} {y b : List Float} → r ≡ Read f → y ≡ doublesOf s 5 (f .n) ++ drop (f .n) y0 →
