@@ -1,4 +1,4 @@
-//! job < JOB: a packed job that runs, by the Rust with document 01's powers as amended put in, its lines printed as the job program prints
+//! job < JOB: a packed job that runs, by the Rust with the powers of docs/RULES.md put in, its lines printed as the job program prints
 //! them: the other side of the job program's time. It judges no file.
 use ivp_patched::dense::StepInterpolant;
 use ivp_patched::ivp::FirstOrderSystem;

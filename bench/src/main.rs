@@ -1,6 +1,6 @@
 //! bench DIR: our functions beside the Rust's, on the same numbers, in one run. Ours are driven by the programs in DIR, which
 //! take their own time; the Rust is called here. Rounds alternate and the quickest of each side counts. A row says whether
-//! both came to the same bits: for powers and runs that is asked of the Rust with document 01's powers as amended put in. A
+//! both came to the same bits: for powers and runs that is asked of the Rust with the powers of docs/RULES.md put in. A
 //! power's time is that of the Rust as it is; a run's is told of both.
 #[allow(dead_code)]
 #[path = "../../oracle/src/random.rs"]
@@ -167,7 +167,7 @@ fn rescaling(dir: &Path, random: &mut Random) {
     }
 }
 
-/// Whole runs: ours, the Rust with document 01's powers as amended put in, and the Rust as it is, in turn. Ours and the first go the
+/// Whole runs: ours, the Rust with the powers of docs/RULES.md put in, and the Rust as it is, in turn. Ours and the first go the
 /// same way to the bit, so their attempts are the same.
 fn runs(dir: &Path) {
     println!();
@@ -183,7 +183,7 @@ fn runs(dir: &Path) {
     }
 }
 
-/// The job program as a whole process beside one over the Rust with document 01's powers as amended put in: reading, solving, printing.
+/// The job program as a whole process beside one over the Rust with the powers of docs/RULES.md put in: reading, solving, printing.
 fn jobs(dir: &Path, random: &mut Random) {
     println!();
     println!("{:<26} {:>8} {:>10} {:>10} {:>8}  {}", "a job, as a process", "lines", "ours, ms", "patched", "ratio", "same bytes");

@@ -1,4 +1,4 @@
-//! The Rust's side: the published library as it is (`ivp`), and for whole runs also with document 01's powers as amended put in.
+//! The Rust's side: the published library as it is (`ivp`), and for whole runs also with the powers of docs/RULES.md put in.
 use crate::problems::Problem;
 use ivp::matrix::{Matrix, lin_solve, lu_decomp};
 use ivp::methods::BDF;

@@ -1,4 +1,4 @@
-//! A run's configuration as words, and document 01's refusals at the beginning.
+//! A run's configuration as words, and the refusals of docs/RULES.md at the beginning.
 use crate::GUARDED;
 use crate::words::{Stream, Unfit, hex, word, words_of};
 use ivp::error::{ConfigError, Error};

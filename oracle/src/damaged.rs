@@ -1,4 +1,4 @@
-//! Job files that are damaged, in every way that document 01 refuses, and some that only look it.
+//! Job files that are damaged, in every way that docs/JOB-FORMAT.md refuses, and some that only look it.
 use crate::packed::{Job, ordinary_job};
 use crate::random::Random;
 

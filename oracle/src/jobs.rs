@@ -1,4 +1,4 @@
-//! Ordinary jobs, printed as the job program prints them, so that the Rust with document 01's powers as amended and the Rust as it is
+//! Ordinary jobs, printed as the job program prints them, so that the Rust with the powers of docs/RULES.md and the Rust as it is
 //! can be held side by side.
 use crate::config::Config;
 use crate::make::Honest;

@@ -1,6 +1,6 @@
-//! Cases whose answers document 01, the transcript's paper, docs/DIFFERENCES.md and, for the inverse root of numbers below the normal
-//! ones, crates/roots/specs/promises/Overflow.antt print; and its hardest roundings. Those of each setting stand at the head of its
-//! part of the stored sample.
+//! Cases whose answers docs/RULES.md, docs/JOB-FORMAT.md, docs/transcript.md, docs/DIFFERENCES.md and, for the inverse root of numbers
+//! below the normal ones, crates/roots/specs/promises/Overflow.antt print; and its hardest roundings. Those of each setting stand at the
+//! head of its part of the stored sample.
 use crate::GUARDED;
 use crate::config::Config;
 use crate::make::record;
@@ -73,7 +73,7 @@ fn interpolations() -> Vec<Known> {
     ]
 }
 
-/// y' = 0 with y0 = 1, as in document 01's first job.
+/// y' = 0 with y0 = 1, as in the first job of docs/JOB-FORMAT.md.
 fn still(max_steps: u64, xend: f64, first_step: Option<f64>, max_step: Option<f64>) -> Vec<u64> {
     let mut config = Config::plain(max_steps, 4, 0.0, xend, vec![1.0]);
     config.first_step = first_step;

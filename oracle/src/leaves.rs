@@ -1,4 +1,4 @@
-//! Kinds 1 to 5: square root, inverse root, LU, solve and interpolation, put to the Rust under document 01's refusals.
+//! Kinds 1 to 5: square root, inverse root, LU, solve and interpolation, put to the Rust under the refusals of docs/RULES.md.
 use crate::random::Random;
 use crate::words::{Stream, Unfit, hex, push_doubles, words_of, word};
 use ivp::matrix::{Matrix, lin_solve, lu_decomp};

@@ -107,7 +107,7 @@ pub fn random_job(random: &mut Random) -> Vec<u8> {
     job.bytes()
 }
 
-/// Jobs that document 01 prints or judges by its words, two that tell an infinite y, and what is printed for them.
+/// Jobs that docs/JOB-FORMAT.md prints or judges by its words, two that tell an infinite y, and what is printed for them.
 pub fn known_jobs() -> Vec<(&'static str, Vec<u8>, &'static str)> {
     let first = |max_steps| Job { n: 1, max_steps, newton_maxiter: 4, automatic: false, padding: 0, doubles: vec![0.0, 1.0, 0.5, 1e-3, 1e-6, 1.0, 0.0] };
     let none = |padding, first_step| Job { n: 0, max_steps: 0, newton_maxiter: 127, automatic: true, padding, doubles: vec![0.0, 1.0, first_step, -1.0, -1.0] };

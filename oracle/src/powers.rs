@@ -1,4 +1,4 @@
-//! Document 01's powers, the inverse root as 02 §4 has it, over whole numbers and without powf. Written from the documents alone.
+//! The powers of docs/RULES.md, the inverse root as 02 §4 has it, over whole numbers and without powf. Written from the rules alone.
 
 /// rate times itself, left to right: `power` factors.
 pub fn whole_power(rate: f64, power: usize) -> f64 {
@@ -9,7 +9,7 @@ pub fn whole_power(rate: f64, power: usize) -> f64 {
     product
 }
 
-/// x to the power 1 / iord, which document 01 knows for iord 1 alone.
+/// x to the power 1 / iord, which the rules know for iord 1 alone.
 pub fn first_power(x: f64, iord: usize) -> f64 {
     assert!(iord == 1);
     x

@@ -9,7 +9,7 @@ use rules::types::Progress;
 use rules::types::Run;
 use std::num;
 
-// What is forged; from `Accepted` on T, A and m are 01's. Those from AcceptedMax on have only one of the two sides.
+// What is forged; from `Accepted` on T, A and m are those of docs/RULES.md. Those from AcceptedMax on have only one of the two sides.
 pub(crate) enum Forgery {
     Size,
     NoSize,

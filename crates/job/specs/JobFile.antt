@@ -1,5 +1,5 @@
--- A file that is a job: a reader takes it for one, and the solver does not refuse to begin with it. So document 01 has it, where past 17
--- and 1 come the beginning's own refusals, and this is what 02 §7 calls accepted as a job. In the words of the contracts.
+-- A file that is a job: a reader takes it for one, and the solver does not refuse to begin with it. So docs/JOB-FORMAT.md has it, where past
+-- 17 and 1 come the beginning's own refusals, and this is what 02 §7 calls accepted as a job. In the words of the contracts.
 use mathlib.Core.Path.{_≡_}
 use mathlib.Core.List.{List, _++_, map}
 use mathlib.Core.Option.{none}

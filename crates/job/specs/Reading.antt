@@ -1,5 +1,5 @@
 -- What a reader takes for a job file, and what it then reads: by the bits of its numbers, and by their values. It refuses by 17 and 1, in
--- document 01's order; 5 to 8 are the beginning's.
+-- the order of docs/JOB-FORMAT.md; 5 to 8 are the beginning's.
 use mathlib.Core.Bool.{Bool, _&&_, _||_, not}
 use mathlib.Core.List.{List, [], _++_}
 use Prim.Native.Nat.{ℕ, _+_, _*_}

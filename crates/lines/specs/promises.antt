@@ -1,3 +1,3 @@
--- What is promised of lines: the contracts leave no choice, and what they give at document 01's example.
+-- What is promised of lines: the contracts leave no choice, and what they give at a job of docs/JOB-FORMAT.md.
 pub mod Unique
 pub mod Examples

@@ -5,7 +5,7 @@ ghost use Rattle.lines.specs.Lines.{statusOf};
 use rules::types::Refusal;
 use rules::types::Status;
 
-// 01's number of a refusal by the solver.
+// The number of a refusal by the solver, as docs/RULES.md has it.
 pub fn number_of(why: Refusal) -> u64
     ensures { λ r. ⌜ r ≡ numberOf why ⌝ }
 {

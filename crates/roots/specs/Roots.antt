@@ -70,7 +70,7 @@ inverseRoot k (fin s zero e) = inf false
 inverseRoot k (fin true (suc m) e) = nan
 inverseRoot k (fin false (suc m) e) = ofBits binary64 (rounded k (unitsOf (fin false (suc m) e)) (2 ^ (1075 * k + 1074)))
 
--- 01's numbers: k outside 1 to 7 is refusal 14
+-- by the numbers of docs/RULES.md: k outside 1 to 7 is refusal 14
 unfoldable pub rootSaid : Root → Outcome Float
 rootSaid (Value r) = gives r
 rootSaid KOutside = refuses 14

@@ -1,4 +1,4 @@
--- The checks of a beginning, in the order of 01's numbers: the workspace and the question slice (2, 3), the tolerances (4, 5),
+-- The checks of a beginning, in the order of their numbers: the workspace and the question slice (2, 3), the tolerances (4, 5),
 -- the limits (6, 7), the first step (8).
 use mathlib.Core.List.{List}
 use mathlib.Core.Bool.{Bool, true, _&&_, _||_}

@@ -18,7 +18,7 @@ use Rattle.rules.specs.Reply.{replied}
 use Rattle.rules.specs.declared.stages.Check.{Check}
 use Rattle.rules.specs.declared.stages.Check.the-variants.{Refuse, Passed}
 
--- ---- damage, exactly 01's list as 02 §6 amends it
+-- ---- damage, exactly the list of docs/RULES.md
 
 -- one of the first n - 1 pivots at or above n
 unfoldable pub pivotTurn : ℕ → List ℕ → ℕ → Bool → Bool

@@ -1,5 +1,5 @@
--- What a refusal tells: 01's number of it, and the values that the number carries. `RefusalTable` says what a call is told, by 01's
--- table.
+-- What a refusal tells: its number in docs/RULES.md, and the values that the number carries. `RefusalTable` says what a call is told, by
+-- the table there.
 use mathlib.Core.Option.{Option, none, some}
 use Prim.Native.Nat.{ℕ}
 use lib.Ieee.{Float}

@@ -18,7 +18,7 @@ pub mod RowSumLaw
 pub mod PlausibleSlips
 -- ---- of what is bought beside the run
 pub mod Outcomes
--- ---- of the contracts: they leave no choice, they compute what 01 prints, and no impostor meets them; that nothing of it is empty
+-- ---- of the contracts: they leave no choice, they compute what is printed of a job, and no impostor meets them; that nothing of it is empty
 pub mod Unique
 pub mod Solver
 pub mod AnySolver

@@ -1,4 +1,4 @@
--- What the definitions give at document 01's own example and at files that are easily judged wrongly, by computation.
+-- What the definitions give at the first job of docs/JOB-FORMAT.md and at files that are easily judged wrongly, by computation.
 use mathlib.Core.Path.{_≡_, refl}
 use mathlib.Core.List.{[], _∷_}
 use Rattle.loops.specs.Choice.{if_then_else_}

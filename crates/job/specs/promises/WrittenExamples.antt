@@ -1,5 +1,5 @@
--- What the writer's definitions give, by computation: document 01's example, a NaN that keeps its bits, and forms that are easily judged
--- wrongly.
+-- What the writer's definitions give, by computation: the first job of docs/JOB-FORMAT.md, a NaN that keeps its bits, and forms that are
+-- easily judged wrongly.
 use mathlib.Core.Path.{_≡_, refl}
 use mathlib.Core.Bool.{Bool, true, false}
 use mathlib.Core.List.{List, [], _∷_}
@@ -44,8 +44,8 @@ form n steps newton automatic first rtol =
       atol = micro;
     }
 
--- document 01's first job: one component, 100,000 steps, Newton 4, first step 0.5, y0 = 1, A = 0. The slice has two bytes more, and they
--- stay
+-- the first job of docs/JOB-FORMAT.md: one component, 100,000 steps, Newton 4, first step 0.5, y0 = 1, A = 0. The slice has two bytes more,
+-- and they stay
 abbrev slice : List ℕ
 slice =
     7 ∷ 7 ∷ 7 ∷ 7 ∷ 7 ∷ 7 ∷ 7 ∷ 7 ∷ 7 ∷ 7 ∷ 7 ∷ 7 ∷ 7 ∷ 7 ∷ 7 ∷ 7 ∷ 7 ∷ 7 ∷ 7 ∷ 7 ∷ 7 ∷ 7 ∷ 7 ∷ 7 ∷ 7 ∷ 7 ∷ 7 ∷ 7 ∷ 7 ∷ 7 ∷ 7 ∷ 7 ∷

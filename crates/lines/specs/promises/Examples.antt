@@ -1,4 +1,4 @@
--- What the definitions give at the last line of document 01's example, run with one step, and at a refusal, by computation.
+-- What the definitions give at the last line of docs/JOB-FORMAT.md's job of one step, and at a refusal, by computation.
 use mathlib.Core.Path.{_≡_, refl}
 use mathlib.Core.Bool.{false}
 use mathlib.Core.List.{[], _∷_}

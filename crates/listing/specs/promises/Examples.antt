@@ -1,5 +1,5 @@
--- Document 01's two printed jobs, from the bytes of the file to the bytes that are printed, by computation: one component, 100,000
--- steps and then 1, Newton 4, from 0 to 1, first step 0.5, tolerances 1e-3 and 1e-6, y0 = 1, A = 0.
+-- The two jobs that docs/JOB-FORMAT.md prints, from the bytes of the file to the bytes that are printed, by computation: one component,
+-- 100,000 steps and then 1, Newton 4, from 0 to 1, first step 0.5, tolerances 1e-3 and 1e-6, y0 = 1, A = 0.
 use mathlib.Core.Path.{_≡_, refl}
 use mathlib.Core.List.{List, [], _∷_, _++_}
 use Prim.Native.Nat.{ℕ}

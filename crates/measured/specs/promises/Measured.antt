@@ -1,4 +1,4 @@
--- The lines of document 01 that were measured on the bench and are to be proved, as one list under a single proof: each is
+-- The lines of docs/RULES.md that were measured on the bench and are marked P, as one list under a single proof: each is
 -- what the definitions compute. The list is the second edition's: one line differs from the first's, and says so. A number is
 -- written `fin s m e`, the number m * 2 ^ e, negative where s is true; `negsuc k` is the exponent -(k + 1).
 use mathlib.Core.Path.{_≡_, refl}

@@ -1,5 +1,5 @@
 -- What a plausible slip would change. Each law here names one thing that is easily got otherwise, and fails where it is. Of the slips
--- that document 01 lists, the reported old x and the first of equal factors are here; ru transposed is RowSumLaw's, the start's
+-- that docs/RULES.md lists, the reported old x and the first of equal factors are here; ru transposed is RowSumLaw's, the start's
 -- evaluation counted into `ode` Demand3's, a NaN let through by min or max `number`'s, and D[0] told for the new y the code's contract's.
 use mathlib.Core.Path.{_≡_, refl, sym, ap, _∙_}
 use mathlib.Core.List.{List, [], _∷_}

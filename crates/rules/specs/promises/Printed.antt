@@ -1,8 +1,8 @@
--- The job that document 01 prints whole: one component, 100,000 steps, Newton 4, from 0 to 1, first step 0.5, tolerances 1e-3 and
+-- The first job of docs/JOB-FORMAT.md: one component, 100,000 steps, Newton 4, from 0 to 1, first step 0.5, tolerances 1e-3 and
 -- 1e-6, y0 = 1, A = 0. The caller answers every derivative and Jacobian with 0 and continues at every notice; the notices and the
--- end that the definitions then compute are what 01 prints, with 02 §6's `start` besides. Beside it the same with one step allowed, whose
--- last line 01 prints too; and, not printed there, with y' = 1 in place of y' = 0, where y moves, and with an automatic start as far as
--- its notice. The job is unguarded, as 01's are, and meets no error norm that is NaN.
+-- end that the definitions then compute are what that page prints, 02 §6's `start` among it. Beside it the same with one step allowed,
+-- whose last line it prints too; and, not printed there, with y' = 1 in place of y' = 0, where y moves, and with an automatic start as far as
+-- its notice. The job is unguarded, as all jobs are, and meets no error norm that is NaN.
 use mathlib.Core.Path.{_≡_, refl}
 use mathlib.Core.Bool.{false}
 use mathlib.Core.List.{List, [], _∷_}

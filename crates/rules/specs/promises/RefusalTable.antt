@@ -1,5 +1,5 @@
--- 01's table of refusals, row by row; and that the answer of a beginning and of going on, whole and whatever is handed over, is
--- refused as the first row says that applies, with its number and its values, and not refused where none applies.
+-- The table of refusals of docs/RULES.md, row by row; and that the answer of a beginning and of going on, whole and whatever is handed
+-- over, is refused as the first row says that applies, with its number and its values, and not refused where none applies.
 use mathlib.Core.Path.{_≡_, refl, sym, _∙_}
 use mathlib.Core.Option.{Option, none, some, Option·some-ne-none}
 use mathlib.Core.List.{List, [], _∷_, _++_}

@@ -1,5 +1,5 @@
--- That nothing is promised of what cannot be: the job that 01 prints is an exchange with every solver that meets the contracts, with
--- demand 3's counters at its end; two callers of it whose slices differ are twins from the beginning to that end, and a guarded and an
+-- That nothing is promised of what cannot be: the first job of docs/JOB-FORMAT.md is an exchange with every solver that meets the contracts,
+-- with demand 3's counters at its end; two callers of it whose slices differ are twins from the beginning to that end, and a guarded and an
 -- unguarded one stay abreast to it; and a solver that invents its counters can be had, so that to rule it out says something.
 use mathlib.Core.Path.{_≡_, refl, sym, ap, _∙_, subst}
 use mathlib.Core.List.{List, [], _∷_}
@@ -45,7 +45,7 @@ history =
     Jacobian nought ∷
     Derivative nought ∷ []
 
--- its end: the exchange, the counters as 01 prints them with 02 §6's `start`, and that they are demand 3's
+-- its end: the exchange, the counters as docs/JOB-FORMAT.md prints them, and that they are demand 3's
 pub record PrintedExchange (o : Solver) : Type 0 where
   pub run : Run
   pub exchange : ExchangeWith o (job 100000) run history
