@@ -129,16 +129,21 @@ fn turn(
 {
     let state = said.state;
     let asked = said.turn;
+    let source = state.source;
     let before = state.place;
     let place = line(out, before, asked, n, q);
+    let shown = state::before_waiting(out, State { source, place });
     let answer = asked.answer;
-    let replied = reply::read(inp, state.source, answer, n, values);
-    let source = replied.source;
+    let replied = reply::read(inp, source, answer, n, values);
+    let left = replied.source;
     let reply = replied.reply;
     let count = replied.count;
     let turn = refused::go_on(asked.run, reply, &values[..count], ws, q);
     Said {
-        state: State { source, place },
+        state: State {
+            source: left,
+            place: shown,
+        },
         turn,
     }
 }

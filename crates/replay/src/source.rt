@@ -1,5 +1,6 @@
 // Words from standard input, by way of a buffer that is lent beside the place in it.
-// The buffer's length is a multiple of 8 and it is filled to its end while there is input, so no word lies across its end.
+// The buffer takes what is there of the input, and of a word that is there in part the rest, which is waited for. So no word lies across
+// its end, and whoever sends words and then listens is answered.
 ghost use mathlib.Core.Path.{_≡_};
 ghost use Prim.Native.Nat.{_≤_};
 use libc::STDIN_FILENO;
@@ -31,12 +32,40 @@ pub(crate) fn filled(inp: &mut [u8], s: Source) -> Source {
     if s.at < s.end {
         return s;
     }
-    let end = io::read_full(STDIN_FILENO, inp);
+    let got = libc::read(STDIN_FILENO, inp);
+    let some = io::count(got, inp);
+    let end = completed(inp, some);
     Source {
         at: 0,
         end,
         fit: s.fit,
     }
+}
+
+// Where the bytes end when the last word among them is whole; at the input's end it may stay as it is.
+fn completed(inp: &mut [u8], some: usize) -> usize {
+    let mut end = some;
+    for _ in 0..7usize {
+        end = one_more(inp, end);
+    }
+    end
+}
+
+// With one byte more, unless whole words stand there already.
+fn one_more(inp: &mut [u8], end: usize) -> usize {
+    if end % 8 == 0 {
+        return end;
+    }
+    let mut byte = [0u8; 1];
+    let got = io::read_full(STDIN_FILENO, &mut byte);
+    if got == 0 {
+        return end;
+    }
+    if end >= inp.len() {
+        return end;
+    }
+    inp[end] = byte[0];
+    end + 1
 }
 
 pub(crate) fn unfit(s: Source) -> Source {

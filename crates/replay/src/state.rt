@@ -40,9 +40,10 @@ pub(crate) fn next(inp: &mut [u8], out: &mut [u8], s: State) -> State {
     let source = s.source;
     let place = s.place;
     if source.fit {
+        let shown = before_waiting(out, s);
         return State {
             source: source::filled(inp, source),
-            place,
+            place: shown,
         };
     }
     let roomy = output::roomy(out, place, LINE);
@@ -50,6 +51,16 @@ pub(crate) fn next(inp: &mut [u8], out: &mut [u8], s: State) -> State {
         source,
         place: text::put_bytes(out, roomy, b"X\n"),
     }
+}
+
+// Where nothing more of the input is at hand, what was said so far is written out: whoever is to reply has then seen it.
+pub(crate) fn before_waiting(out: &[u8], s: State) -> Place {
+    let source = s.source;
+    let place = s.place;
+    if source.at < source.end {
+        return place;
+    }
+    output::flush(out, place)
 }
 
 pub(crate) fn unfit(s: State) -> State {

@@ -14,6 +14,7 @@ turn-spec =
     (tie.spec
     (λ c κs. search needs)
     (λ c κs. search needs)
+    (λ c κs. search needs)
     (λ c. search needs)
     slice-aggregate-go-on
     (λ c κs. search needs)
