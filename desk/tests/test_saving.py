@@ -11,14 +11,18 @@ from pathlib import Path
 from unittest import mock
 
 sys.dont_write_bytecode = True
+sys.path[:0] = [str(Path(__file__).resolve().parents[2])]
 
-import job
+from desk import door
 from samples import FIRST, first, form
 
 try:
     import resource
 except ImportError:
     resource = None  # not every system has it
+
+
+OLDER = form(2).packed()  # the job file that is there already
 
 
 class Saving(unittest.TestCase):
@@ -36,17 +40,17 @@ class Saving(unittest.TestCase):
         """Exit status and what was said."""
         out, said = io.StringIO(), io.StringIO()
         with contextlib.redirect_stdout(out), contextlib.redirect_stderr(said):
-            status = job.main(["make", str(source or self.text), str(to or self.job)])
+            status = door.main(["make", str(source or self.text), str(to or self.job)])
         return status, out.getvalue() + said.getvalue()
 
     def made(self, to=None):
         self.assertEqual(self.make(to), (0, f"{to or self.job}: 61 bytes\n"))
 
-    def not_made(self, words, to=None, source=None):
+    def not_made(self, words, to=None, source=None, refused=False):
         """It is told in one sentence, and the folder has the same files with the same bytes."""
         before = self.files()
         status, said = self.make(to, source)
-        self.assertEqual(status, 2)
+        self.assertEqual(status, 4 if refused else 2)
         self.assertIn(words, said)
         self.assertEqual(said.count("\n"), 1, said)
         self.assertEqual(self.files(), before)
@@ -57,9 +61,15 @@ class Saving(unittest.TestCase):
     def test_new_and_over_an_older_one(self):
         self.made()
         self.assertEqual(self.files(), {self.text: FIRST.encode(), self.job: first().packed()})
-        self.job.write_bytes(bytes(9000))
-        self.made()
-        self.assertEqual(self.files(), {self.text: FIRST.encode(), self.job: first().packed()})
+        for older in (OLDER, form(1, max_steps=0).packed(), b""):
+            self.job.write_bytes(older)
+            self.made()
+            self.assertEqual(self.files(), {self.text: FIRST.encode(), self.job: first().packed()})
+
+    def test_what_is_no_job_file_is_not_replaced(self):
+        for other in (bytes(9000), b"a letter", FIRST.encode(), OLDER[:-1], OLDER + b"\0"):
+            self.job.write_bytes(other)
+            self.not_made("a.job: it was not saved: the file that is there is no job file, and stays as it is")
 
     def test_permissions(self):
         """Those of the older file stay; a new file has those that any new one has."""
@@ -79,7 +89,7 @@ class Saving(unittest.TestCase):
         return stat.S_IMODE(self.job.stat().st_mode)
 
     def test_permissions_come_before_the_bytes(self):
-        self.job.write_bytes(b"older")
+        self.job.write_bytes(OLDER)
         seen = []
         with mock.patch("shutil.copymode", lambda _, part: seen.append(Path(part).read_bytes())):
             self.made()
@@ -92,28 +102,28 @@ class Saving(unittest.TestCase):
         self.assertEqual(other.read_bytes(), first().packed())
         # one that the job program reads and then refuses can be shown, but is not saved anew
         self.job.write_bytes(form(1, max_steps=0).packed())
-        self.not_made("a.job: max_steps is 0 (the job program would refuse it by number 6)", other, self.job)
+        self.not_made("a.job: max_steps is 0 (the job program would refuse it by number 6)", other, self.job, refused=True)
         with contextlib.redirect_stdout(io.StringIO()) as shown:
-            self.assertEqual(job.main(["show", str(self.job)]), 0)
+            self.assertEqual(door.main(["show", str(self.job)]), 0)
         self.assertIn("max_steps 0\n", shown.getvalue())
 
     def test_a_refused_text(self):
-        self.job.write_bytes(b"older")
+        self.job.write_bytes(OLDER)
         self.text.write_text(FIRST.replace("rtol ", "rtol -"))
-        self.not_made("a.txt, line 7: rtol is below 0 (the job program would refuse it by number 5)")
+        self.not_made("a.txt, line 7: rtol is below 0 (the job program would refuse it by number 5)", refused=True)
 
     def test_interrupted(self):
         full = OSError(28, "No space left on device")
-        for before in (None, b"older"):
+        for before in (None, OLDER):
             if before:
                 self.job.write_bytes(before)
-            for place in ("os.fsync", "os.replace", *(("shutil.copymode",) if before else ())):
+            for place in ("os.fsync", "desk.saving.put", *(("shutil.copymode",) if before else ())):
                 with mock.patch(place, side_effect=full):
                     self.not_made("a.job: it was not saved: No space left on device")
-            with mock.patch("job.open", self.opened_to_fail, create=True):
+            with mock.patch("desk.saving.open", self.opened_to_fail, create=True):
                 self.not_made("a.job: it was not saved: No space left on device")
-            with mock.patch("os.fsync", side_effect=KeyboardInterrupt), self.assertRaises(KeyboardInterrupt):
-                self.make()
+            with mock.patch("os.fsync", side_effect=KeyboardInterrupt):
+                self.assertEqual(self.make()[0], 130)
             self.assertEqual(set(self.files()), {self.text, self.job} if before else {self.text})
 
     def opened_to_fail(self, *how):
@@ -133,7 +143,7 @@ class Saving(unittest.TestCase):
 
     @unittest.skipIf(resource is None, "files cannot be limited on this system")
     def test_a_disk_that_takes_twenty_bytes(self):
-        self.job.write_bytes(b"older")
+        self.job.write_bytes(OLDER)
         soft, hard = resource.getrlimit(resource.RLIMIT_FSIZE)
         resource.setrlimit(resource.RLIMIT_FSIZE, (20, hard))
         try:
@@ -141,7 +151,7 @@ class Saving(unittest.TestCase):
         finally:
             resource.setrlimit(resource.RLIMIT_FSIZE, (soft, hard))
         self.assertEqual((status, said), (2, f"{self.job}: it was not saved: File too large\n"))
-        self.assertEqual(self.files(), {self.text: FIRST.encode(), self.job: b"older"})
+        self.assertEqual(self.files(), {self.text: FIRST.encode(), self.job: OLDER})
 
     def test_whole_before_it_is_renamed(self):
         seen = []
@@ -150,12 +160,32 @@ class Saving(unittest.TestCase):
             seen.append((Path(part).parent, to, Path(part).read_bytes(), Path(part).name.endswith(".job")))
             raise OSError(5, "Input/output error")
 
-        with mock.patch("os.replace", replace):
+        with mock.patch("os.link", replace), mock.patch("os.replace", replace):
             self.not_made("Input/output error")
-        self.assertEqual(seen, [(self.folder, str(self.job), first().packed(), False)])
+        self.assertEqual(set(seen), {(self.folder, str(self.job), first().packed(), False)})
+
+    def test_protected_for_root_too(self):
+        self.job.write_bytes(OLDER)
+        with mock.patch("os.access", lambda *_: False):
+            self.not_made("a.job: it was not saved: the file that is there is protected from being changed")
+
+    def test_one_that_cannot_be_read(self):
+        self.job.write_bytes(OLDER)
+        real = open
+
+        def opened(path, *how):
+            if str(path) == str(self.job):
+                raise PermissionError(13, "Permission denied")
+            return real(path, *how)
+
+        with mock.patch("desk.saving.open", opened, create=True):
+            self.not_made("a.job: it was not saved: the file that is there cannot be read: Permission denied")
+
+    def test_a_name_that_no_system_has(self):
+        self.not_made("it was not saved: ", str(self.folder / "a\0.job"))
 
     def test_a_name_that_is_taken(self):
-        (self.folder / ".job-00.part").write_bytes(b"another's")
+        (self.folder / ".cuzzimbra-00.part").write_bytes(b"another's")
         with mock.patch("secrets.token_hex", lambda _: "00"):
             self.not_made("File exists")
 
@@ -173,7 +203,7 @@ class Saving(unittest.TestCase):
 
     @unittest.skipIf(not hasattr(os, "geteuid") or os.geteuid() == 0, "root may write everywhere")
     def test_protected(self):
-        self.job.write_bytes(b"older")
+        self.job.write_bytes(OLDER)
         self.job.chmod(0o444)
         self.not_made("a.job: it was not saved: the file that is there is protected")
         self.folder.chmod(0o555)
@@ -190,7 +220,7 @@ class Saving(unittest.TestCase):
             self.assertTrue(self.job.is_symlink())
             self.assertEqual(set(self.files()), {self.text, self.job, elsewhere, target})
             self.assertEqual(target.read_bytes(), first().packed())
-            target.write_bytes(b"older")
+            target.write_bytes(OLDER)
         self.made()
         self.job.unlink()
         self.job.symlink_to(self.job)

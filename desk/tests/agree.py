@@ -1,15 +1,15 @@
 #!/usr/bin/env python3
-"""agree.py WRITE_JOB RUN_JOB COUNT SEED: puts forms to the proved writer of job files, to packed.py, to job.py and to the job
-program, and compares what they make of them.
+"""agree.py WRITE_JOB RUN_JOB COUNT SEED: puts forms to the proved writer of job files, to the desk and to the job program, and
+compares what they make of them.
 
-Every form goes to the writer and to packed.py: both refuse it by the same number, or both make the same bytes of it, and nothing
+Every form goes to the writer and to the desk's rules: both refuse it by the same number, or both make the same bytes of it, and nothing
 else in the slice that is lent changes. What was written is read and written again, to the same bytes. The job program refuses none
 of it; what is refused, as far as bytes can say it, it refuses by the same number. As a text, as far as one can say it, the form comes
-to the same. Damaged files are put to all but job.py as well. Each bound and every two refusals are put once, and COUNT forms and half as
+to the same. Damaged files are put to all but `make` as well. Each bound and every two refusals are put once, and COUNT forms and half as
 many files at random.
 
-Each bound and every two refusals are also made by `job.py make` from their texts, in a folder of their own: it leaves a file of the same
-bytes, or refuses by the same number and leaves no file, or an older one as it was.
+Each bound and every two refusals are also made by the desk's `make` from their texts, in a folder of their own: it leaves a file of the same
+bytes, or refuses by the same number and leaves no file, or an older job file as it was.
 
 Prints a table. Exit status 1 where one differs: the first that does is kept below target/agree/ with what each said; 2 where it could
 not be run.
@@ -28,15 +28,16 @@ import tempfile
 from pathlib import Path
 
 sys.dont_write_bytecode = True
+sys.path[:0] = [str(Path(__file__).resolve().parents[2])]
 
 import forms
-import job
-import packed
+from desk import circuit, filing, packed
+from samples import first
 
 SAME, DIFFERING, NOT_RUN = 0, 1, 2
 BATCH = 500  # cases for one process of the writer
 UNTOUCHED = b"\xa5"  # what every byte of a slice is before the call
-OLDER = b"an older file"
+OLDER = first().packed()  # the file that is there already
 PATIENCE = 300  # seconds
 NO_CASE = "streams that are no cases"
 ROOM = Path(__file__).resolve().parent.parent / "target" / "agree"
@@ -62,14 +63,14 @@ def main(args):
 
 
 class Case:
-    """What is put to the writer, and what packed.py says of it: the number of a refusal, or the bytes of the job."""
+    """What is put to the writer, and what the desk says of it: the number of a refusal, or the bytes of the job."""
 
     def __init__(self, row, words, room, number, data):
         self.row, self.stream, self.room = row, words, room
         self.number, self.data = number, data
         self.file = data  # what is put to the job program
         self.text = None
-        self.made = False  # whether the text is also made by job.py
+        self.made = False  # whether the text is also made by the desk
 
     def answer(self):
         """What the writer is to say, and the slice as it is to stand then. That a slice is too short is looked at last."""
@@ -83,13 +84,13 @@ class Case:
         return f"R {self.number}" if self.number else "E"
 
     def told(self):
-        """What packed.py is to say of the text, where it refuses it."""
+        """What the desk is to say of the text, where it refuses it."""
         return f"R {self.number}, with its line"
 
     def left(self, older):
-        """What job.py is to say of the text, and the file that it is to leave where there was an older one, or none."""
+        """What `make` is to say of the text, and the file that it is to leave where there was an older one, or none."""
         if self.number is None:
-            return f"exit status {job.FINISHED}", ("t.job", self.data)
+            return "saved", ("t.job", self.data)
         return (self.told(),) if older is None else (self.told(), ("t.job", older))
 
 
@@ -196,17 +197,17 @@ def ran(runner, data):
 
 
 def said_by_each(case, said, back, runner):
-    """Who, what was said, and what was expected by packed.py's rules."""
+    """Who, what was said, and what was expected by the desk's rules."""
     compared = [("WRITE_JOB", said, case.answer())]
     if case.data is not None:
         compared.append(("WRITE_JOB of the file", back, (f"W {len(case.data)}", case.data + 3 * UNTOUCHED)))
     if case.file is not None:
         compared.append(("RUN_JOB", ran(runner, case.file), case.run()))
     if case.text is not None:
-        compared.append(("packed.py of the text", of_text(case.text), case.data if case.number is None else case.told()))
+        compared.append(("the desk of the text", of_text(case.text), case.data if case.number is None else case.told()))
     if case.made:
-        compared.append(("job.py make", made(case.text, None), case.left(None)))
-        compared.append(("job.py make over an older file", made(case.text, OLDER), case.left(OLDER)))
+        compared.append(("make", made(case.text, None), case.left(None)))
+        compared.append(("make over an older job file", made(case.text, OLDER), case.left(OLDER)))
     return compared
 
 
@@ -217,7 +218,7 @@ def differs(compared):
 def of_text(text):
     """The bytes, or the number of the refusal and whether it is told with a line."""
     try:
-        return packed.to_save(packed.of_text(text, "t"), "t")
+        return packed.to_save(circuit.of_text(text, "t"), "t")
     except packed.Wrong as wrong:
         return told(wrong, "t")
 
@@ -229,7 +230,7 @@ def told(wrong, name):
 
 @functools.lru_cache(maxsize=BATCH)
 def made(text, older):
-    """What `job.py make` says of a text, and every file that is beside it afterwards, with its bytes."""
+    """What `make` says of a text, and every file that is beside it afterwards, with its bytes."""
     with tempfile.TemporaryDirectory() as folder:
         source, to = Path(folder, "t"), Path(folder, "t.job")
         source.write_bytes(text.encode())
@@ -237,7 +238,8 @@ def made(text, older):
             to.write_bytes(older)
         try:
             with contextlib.redirect_stdout(io.StringIO()):
-                said = f"exit status {job.make(str(source), str(to))}"
+                filing.make(str(source), str(to))
+            said = "saved"
         except packed.Wrong as wrong:
             said = told(wrong, str(source))
         return (said, *((path.name, path.read_bytes()) for path in sorted(Path(folder).iterdir()) if path != source))

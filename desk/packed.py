@@ -1,9 +1,9 @@
-"""A job as readable text, as a form, and as the packed bytes that the job program reads.
+"""A job as a form, and as the packed bytes that the job program reads (docs/JOB-FORMAT.md). Its text is `circuit`'s.
 
 Every number is kept as its 64 bits, never as a float that is written out again: so what is shown and packed once more is
 the same file, byte for byte. What may be saved goes by the rules of the proved writer, which `refusal` holds once.
 """
-import re
+import copy
 import struct
 
 MAX_N, MAX_STEPS, MAX_NEWTON = 32, 1_000_000, 64
@@ -13,7 +13,6 @@ COUNTS = ("n", "max_steps", "newton_maxiter")
 DOUBLES = ("x0", "xend", "first_step", "rtol", "atol")
 WORDS = COUNTS + DOUBLES + ("y0", "A")
 SPOKEN = ("title", "axis", "names")  # for table and picture alone: a packed job has no place for them
-SPECIAL = {"infinity": 0x7FF0 << 48, "-infinity": 0xFFF0 << 48, "nan": 0x7FF8 << 48}
 
 
 class Wrong(Exception):
@@ -35,9 +34,17 @@ class Form:
         self.x0, self.xend, self.first_step, self.rtol, self.atol = (fields[word] for word in DOUBLES)
         self.automatic = fields["automatic"]
         self.y0, self.a = fields["y0"], fields["A"]
-        self.title = fields.get("title") or "a job"
-        self.axis = fields.get("axis") or "x"
-        self.names = fields.get("names") or [f"y{i + 1}" for i in range(len(self.y0))]
+        self.spoken = {word: fields[word] for word in SPOKEN if fields.get(word)}
+        self.title = self.spoken.get("title", "a job")
+        self.axis = self.spoken.get("axis", "x")
+        self.names = self.spoken.get("names", [f"y{i + 1}" for i in range(len(self.y0))])
+        self.lines, self.row_lines = {}, []  # of a text: the line of each word, and of each row of A
+
+    def but(self, **change):
+        """The same form with something else in it."""
+        other = copy.copy(self)
+        vars(other).update(change)
+        return other
 
     def packed(self):
         """The bytes of the job file. A form that fits no file has none."""
@@ -50,7 +57,9 @@ class Form:
 
     def text(self):
         first = "automatic" if self.automatic else written(self.first_step)
-        lines = [f"n {self.n}", f"max_steps {self.max_steps}", f"newton_maxiter {self.newton_maxiter}"]
+        lines = [f"{word} {self.spoken[word]}" for word in ("title", "axis") if word in self.spoken]
+        lines += [" ".join(["names", *self.names])] if "names" in self.spoken else []
+        lines += [f"n {self.n}", f"max_steps {self.max_steps}", f"newton_maxiter {self.newton_maxiter}"]
         lines += [f"x0 {written(self.x0)}", f"xend {written(self.xend)}", f"first_step {first}"]
         lines += [f"rtol {written(self.rtol)}", f"atol {written(self.atol)}", row("y0", self.y0), "A"]
         lines += [row(" ", self.a[i * self.n : (i + 1) * self.n]) for i in range(self.n)]
@@ -70,9 +79,9 @@ def unfit(form):
     if n > MAX_N:
         return 1, "n", f"n is {n}, above {MAX_N}"
     if len(form.y0) != n:
-        return 17, "y0", f"y0 has {len(form.y0)} numbers, but n is {n}"
+        return 17, "y0", f"y0 has {numbers(len(form.y0))}, but n is {n}"
     if len(form.a) != n * n:
-        return 17, "A", f"A has {len(form.a)} numbers, but n is {n}, which wants {n * n}"
+        return 17, "A", f"A has {numbers(len(form.a))}, but n is {n}, which wants {n * n}"
     if form.max_steps >= STEPS_ROOM:
         return 17, "max_steps", f"max_steps is {form.max_steps}, too large for a job file; write at most {MAX_STEPS:,}"
     if form.newton_maxiter >= NEWTON_ROOM:
@@ -80,6 +89,10 @@ def unfit(form):
     if form.automatic and form.first_step != 0:
         return 17, "first_step", "the start is automatic and yet there is a first_step"
     return None
+
+
+def numbers(count):
+    return f"{count} number{'' if count == 1 else 's'}"
 
 
 def unready(form):
@@ -121,122 +134,16 @@ def value(bits):
     return struct.unpack(">d", bits.to_bytes(8, "big"))[0]
 
 
+def bits_of(x):
+    return int.from_bytes(struct.pack(">d", x), "big")
+
+
 def written(bits):
     """The shortest decimal that reads back as these bits; a NaN keeps its own by being shown as them."""
     x = value(bits)
     if x != x:
         return f"0x{bits:016X}"
     return {float("inf"): "infinity", float("-inf"): "-infinity"}.get(x) or repr(x)
-
-
-def number(text, where):
-    """The bits of a number as written: decimal, or 0x and sixteen digits."""
-    if text in SPECIAL:
-        return SPECIAL[text]
-    if text[:2] in ("0x", "0X"):
-        if not re.fullmatch("[0-9A-Fa-f]{16}", text[2:]):
-            raise Wrong(f"{where}: {text}: after 0x come the 16 hexadecimal digits of a double")
-        return int(text, 16)
-    if re.fullmatch(r"[+-]?\d+,\d+", text):
-        raise Wrong(f"{where}: {text}: write the decimal point as a point, not as a comma")
-    if not re.fullmatch(r"[+-]?([0-9]+\.?[0-9]*|\.[0-9]+)([eE][+-]?[0-9]+)?", text):
-        raise Wrong(f"{where}: {text} is no number (such as 0.5, -1e-3, infinity, or 0x and 16 digits)")
-    x = float(text)
-    nothing_but_zeros = not re.search("[1-9]", re.split("[eE]", text)[0])
-    if abs(x) == float("inf") or (x == 0 and not nothing_but_zeros):
-        raise Wrong(f"{where}: {text} is too {'small' if x == 0 else 'large'} for a double")
-    return int.from_bytes(struct.pack(">d", x), "big")
-
-
-def whole(text, where):
-    """A count as written. 20 digits are more than any count may have; `refusal` says which are too large."""
-    if not re.fullmatch("0*[0-9]{1,20}", text):
-        raise Wrong(f"{where}: {text} is no whole number that a job can have (such as 0, 4 or 1000)")
-    return int(text[-20:])
-
-
-def of_text(text, name):
-    """The job that a text says. Every word is written once; what is no form is told first, then what the writer refuses, by its
-    line and in the writer's order."""
-    said, where = sorted_by_word(text, name)
-    for word in WORDS:
-        if word not in said:
-            raise Wrong(f"{name}: there is no line that begins with {word}")
-    form = form_of(said, where)
-    found = refusal(form)
-    if found:
-        raise refused(*in_its_line(found, form, said, where))
-    misshapen = shape(said["A"], form.n, where["A"])
-    if misshapen:  # as many numbers as there should be, but in other rows
-        raise Wrong(": ".join(misshapen))
-    if "names" in said and len(said["names"]) != form.n:
-        raise Wrong(f"{where['names']}: {len(said['names'])} names for {form.n} components")
-    return form
-
-
-def form_of(said, where):
-    """What stands in a text, word by word, whether or not it may be saved."""
-    fields = {word: said.get(word) for word in SPOKEN}
-    for word in COUNTS:
-        fields[word] = whole(one(said[word], word, where), where[word])
-    for word in DOUBLES:
-        given = one(said[word], word, where)
-        automatic = word == "first_step" and given == "automatic"
-        fields[word] = 0 if automatic else number(given, where[word])
-    fields["automatic"] = said["first_step"] == ["automatic"]
-    fields["y0"] = [number(part, where["y0"]) for part in said["y0"]]
-    fields["A"] = [number(part, place) for parts, place in said["A"] for part in parts]
-    return Form(fields)
-
-
-def in_its_line(found, form, said, where):
-    """The place in the text of what `refusal` found, and that again: of A the row that is at fault."""
-    by, word, _ = found
-    if word != "A":
-        return where[word], found
-    place, sentence = shape(said["A"], form.n, where["A"])
-    return place, (by, word, sentence)
-
-
-def shape(rows, n, place):
-    """Where A is not n rows of n numbers, and in what way; None where it is."""
-    if len(rows) != n:
-        return place, f"A has {len(rows)} rows, but n is {n}"
-    for i, (parts, at) in enumerate(rows, 1):
-        if len(parts) != n:
-            return at, f"row {i} of A has {len(parts)} numbers, but n is {n}"
-    return None
-
-
-def sorted_by_word(text, name):
-    """What stands after each word, and the place of its line. The rows of A are the lines after it that begin with no word."""
-    said, where = {}, {}
-    for count, line in enumerate(text.split("\n"), 1):
-        parts = line.split("#")[0].split()
-        place = f"{name}, line {count}"
-        if not parts:
-            continue
-        word = parts[0]
-        if word not in WORDS + SPOKEN:
-            if list(said)[-1:] == ["A"]:
-                said["A"].append((parts, place))
-                continue
-            raise Wrong(f"{place}: {word}: a line begins with one of {', '.join(WORDS + SPOKEN)}; the rows of A follow its line")
-        if word in said:
-            raise Wrong(f"{place}: {word} already stands in {where[word].split(', ')[-1]}")
-        where[word] = place
-        said[word] = parts[1:]
-        if word in ("title", "axis"):
-            said[word] = " ".join(parts[1:])
-        if word == "A":
-            said[word] = [(parts[1:], place)] if parts[1:] else []
-    return said, where
-
-
-def one(parts, word, where):
-    if len(parts) != 1:
-        raise Wrong(f"{where[word]}: {word} wants one value, here are {len(parts)}")
-    return parts[0]
 
 
 def of_bytes(data, name):
@@ -261,17 +168,3 @@ def of_bytes(data, name):
     return Form(fields)
 
 
-def of_file(path):
-    """A file whose name ends in .job is packed, any other is text."""
-    try:
-        with open(path, "rb") as file:
-            data = file.read()
-    except OSError as fault:
-        raise Wrong(f"{path}: {fault.strerror}")
-    if path.endswith(".job"):
-        return of_bytes(data, path)
-    try:
-        return of_text(data.decode("utf-8-sig"), path)
-    except UnicodeDecodeError as fault:
-        line = data[: fault.start].count(b"\n") + 1
-        raise Wrong(f"{path}, line {line}: this is no text (a packed job's name ends in .job)")

@@ -4,7 +4,7 @@ The job program runs what is accepted. So that no run is long, jobs have few ste
 import itertools
 import struct
 
-import packed
+from desk import packed
 
 SIGN, INFINITY = 1 << 63, 0x7FF0 << 48
 MOST = (1 << 64) - 1  # the largest word

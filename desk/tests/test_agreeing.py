@@ -8,10 +8,11 @@ from pathlib import Path
 from unittest import mock
 
 sys.dont_write_bytecode = True
+sys.path[:0] = [str(Path(__file__).resolve().parents[2])]
 
 import agree
 import forms
-import packed
+from desk import circuit, packed
 from samples import form
 
 
@@ -24,7 +25,7 @@ class Agreeing(unittest.TestCase):
             found = packed.refusal(one)
             if found is None:
                 self.assertEqual(forms.packing(one), one.packed())
-                self.assertEqual(packed.of_text(forms.spelled(one, forms.by_its_digits), "t").packed(), one.packed())
+                self.assertEqual(circuit.of_text(forms.spelled(one, forms.by_its_digits), "t").packed(), one.packed())
             self.assertTrue(found is None or row in ("one damage", "several damages"))
 
     def test_each_number_is_met(self):
@@ -70,7 +71,7 @@ class Agreeing(unittest.TestCase):
 
 
 class Making(unittest.TestCase):
-    """What `job.py make` leaves is held to the case, with an older file and without: an error in it is seen."""
+    """What `make` leaves is held to the case, with an older file and without: an error in it is seen."""
 
     GOOD, REFUSED = form(1), form(1, max_steps=0)
 
@@ -91,30 +92,30 @@ class Making(unittest.TestCase):
             Path(path + ".part").write_bytes(data)
 
         for save in (half, two, lambda *_: None):
-            with mock.patch("job.save", save):
+            with mock.patch("desk.saving.save", save):
                 self.assertEqual(self.agrees(self.GOOD), [False, False])
 
     def test_a_refusal_leaves_a_file(self):
-        def opened_too_soon(path, of_file=packed.of_file):
+        def opened_too_soon(path, of_file=circuit.of_file):
             Path(path + ".job").write_bytes(b"")
             return of_file(path)
 
-        def taken_away(path, of_file=packed.of_file):
+        def taken_away(path, of_file=circuit.of_file):
             if Path(path + ".job").exists():
                 Path(path + ".job").unlink()
             return of_file(path)
 
         for of_file, agrees in ((opened_too_soon, [False, False]), (taken_away, [True, False])):
-            with mock.patch("packed.of_file", of_file):
+            with mock.patch("desk.circuit.of_file", of_file):
                 self.assertEqual(self.agrees(self.REFUSED), agrees)
 
     def test_another_number(self):
         for number in (5, None):
-            with mock.patch("packed.of_file", side_effect=packed.Wrong("t, line 2: wrong", number)):
+            with mock.patch("desk.circuit.of_file", side_effect=packed.Wrong("t, line 2: wrong", number)):
                 self.assertEqual(self.agrees(self.REFUSED), [False, False])
                 self.assertEqual(self.agrees(self.GOOD), [False, False])
-        with mock.patch("packed.to_save", lambda one, _: one.packed()), mock.patch("packed.refusal", lambda _: None):
-            self.assertEqual(agree.made.__wrapped__(self.REFUSED.text(), None)[0], "exit status 0")
+        with mock.patch("desk.filing.to_save", lambda one, _: one.packed()), mock.patch("desk.circuit.refusal", lambda _: None):
+            self.assertEqual(agree.made.__wrapped__(self.REFUSED.text(), None)[0], "saved")
 
 
 if __name__ == "__main__":
