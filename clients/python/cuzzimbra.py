@@ -15,6 +15,7 @@ import re
 import struct
 import sys
 
+from beginning import begun, number, scales, tolerances
 from replaying import Broken, Process
 
 __all__ = ["solve", "Solver", "Result", "Step", "Unfinished", "Overflowed", "Refused", "NotFinite", "Broken"]
@@ -31,7 +32,6 @@ REFUSALS = {
 END = re.compile(rb"E ([0-3]) [0-9A-F]{16}((?: [0-9]+){7})\n")
 REFUSAL = re.compile(rb"R ([0-9]{1,3})(?: ([ra]) ([0-9]+))?((?: [0-9A-F]{16})*)\n")
 MOST = 64  # components that the program reads; it refuses those above 32
-ALL_ONES = 2**64 - 1
 HALF_DIGITS = math.sqrt(sys.float_info.epsilon)
 TINY = 1e-290
 HAIR = 16  # units in the last place
@@ -41,15 +41,22 @@ class Unfinished(RuntimeError):
     """The end was asked of a run that did not reach it. `status`, `x`: how and how far it came; `xend`: how far it should have."""
 
     def __init__(self, status, x, xend):
-        advice = ""
-        if status == "NeedLargerNMax":
-            advice = "; the steps were used up: raise max_steps"
-        elif x == xend:
-            advice = "; x0 is xend, and there is no step to take"
-        elif abs(xend - x) <= HAIR * max(abs(x), abs(xend)) * sys.float_info.epsilon:
-            advice = "; rounding stopped it a hair short: move xend a little, or give another first_step"
-        super().__init__(f"{status}: the run came to x = {x!r}, and xend is {xend!r}. The last state is NOT the end's{advice}")
+        super().__init__(status, x, xend)
         self.status, self.x, self.xend = status, x, xend
+
+    def __str__(self):
+        words = f"{self.status}: the run came to x = {self.x!r}, and xend is {self.xend!r}. The last state is NOT the end's"
+        return words + self.advice()
+
+    def advice(self):
+        if self.status == "NeedLargerNMax":
+            return "; the steps were used up: raise max_steps"
+        if self.status == "StepSizeTooSmall" and self.x == self.xend:
+            return "; x0 is xend, and there is no step to take"
+        short = abs(self.xend - self.x) <= HAIR * max(abs(self.x), abs(self.xend)) * sys.float_info.epsilon
+        if self.status == "StepSizeTooSmall" and short:
+            return "; rounding stopped it a hair short: move xend a little, or give another first_step"
+        return ""
 
 
 class Overflowed(ArithmeticError):
@@ -60,9 +67,12 @@ class Refused(ValueError):
     """The solver refused to begin: `number` (docs/RULES.md), `words`, and the `values` that it told with it."""
 
     def __init__(self, number, values=()):
+        super().__init__(number, values)
         self.number, self.values, self.words = number, tuple(values), REFUSALS.get(number, "docs/RULES.md says why")
+
+    def __str__(self):
         told = f" ({', '.join(map(str, self.values))})" if self.values else ""
-        super().__init__(f"refused by number {number}: {self.words}{told}")
+        return f"refused by number {self.number}: {self.words}{told}"
 
 
 class NotFinite(ArithmeticError):
@@ -243,52 +253,10 @@ def solve(fun, span, y0, jac=None, rtol=1e-3, atol=1e-6, max_steps=100_000, firs
     n, rtols, atols = len(y0), tolerances(rtol, len(y0), "rtol"), tolerances(atol, len(y0), "atol")
     if n > MOST:
         raise Refused(1)  # so many the program would not even read
-    max_step = None if max_step == math.inf else max_step
-    flags = (max_step is not None) + 8 * (first_step is not None) + 16 * bool(guarded)
-    case = struct.pack(">5Q", 0, n, whole(max_steps, "max_steps"), whole(newton_maxiter, "newton_maxiter"), flags)
-    sizes = (0 if size is None else number(size, name) for size, name in ((max_step, "max_step"), (first_step, "first_step")))
-    case += struct.pack(">4d", x0, xend, next(sizes), 0) + struct.pack(">2d", 0, next(sizes))
-    case += packed(rtols) + packed(atols) + struct.pack(f">{n}d", *y0)
+    case = begun((x0, xend), y0, (rtols, atols), (max_steps, newton_maxiter), (max_step, first_step), guarded)
     asked = Asked(fun, jac, notice, n, scales(rtols, atols, n))
     with contextlib.nullcontext(solver) if solver else Solver() as used:
         return used.converse(case, asked, Result(x0, y0, xend))
-
-
-def number(value, what):
-    found = float(value)
-    if not math.isfinite(found):
-        raise ValueError(f"{what} is {found!r}: a finite number is wanted")
-    return found
-
-
-def whole(value, what):
-    """A count as a word: what is too large for one is refused as the largest is."""
-    if value < 0 or value != int(value):
-        raise ValueError(f"{what} is {value!r}: a whole number from 0 on is wanted")
-    return min(int(value), ALL_ONES)
-
-
-def tolerances(value, n, what):
-    """A number, or a list of them: as many as there are components. Fewer the solver refuses."""
-    if not hasattr(value, "__iter__") or not getattr(value, "ndim", 1):
-        return number(value, what)
-    found = [number(entry, f"an entry of {what}") for entry in value]
-    if len(found) > n:
-        raise ValueError(f"{what} has {len(found)} entries, and there are {n} components")
-    return found
-
-
-def packed(tolerance):
-    """A word of all ones and a number, or a count and so many numbers."""
-    if isinstance(tolerance, float):
-        return struct.pack(">Qd", ALL_ONES, tolerance)
-    return struct.pack(f">Q{len(tolerance)}d", len(tolerance), *tolerance)
-
-
-def scales(rtols, atols, n):
-    """For the differences: below which size each component counts for nothing, as its tolerances say."""
-    rtols, atols = ([each] * n if isinstance(each, float) else each for each in (rtols, atols))
-    return [a / r if r > 0 else 1.0 for r, a in zip(rtols, atols)]
 
 
 class Solver:

@@ -1,6 +1,7 @@
 #!/usr/bin/env python3
 """What a run gives, and what it raises. Wants the program replay: the one that CUZZIMBRA_REPLAY names, or the one that is built."""
 import math
+import pickle
 import random
 import struct
 import subprocess
@@ -231,6 +232,14 @@ class Mistakes(Clean):
             fault = caught.exception
             self.assertEqual((fault.number, fault.values, fault.words), (number, values, cuzzimbra.REFUSALS[number]))
             self.assertIn(f"number {number}: {fault.words}", str(fault))
+
+    def test_between_processes(self):
+        """What is raised or given can be sent to another process, as a pool of them does."""
+        for fault in (Refused(5, ("r", 0, -1.0)), Unfinished("NeedLargerNMax", 0.5, 1.0), NotFinite("words")):
+            again = pickle.loads(pickle.dumps(fault))
+            self.assertEqual((type(again), str(again), vars(again)), (type(fault), str(fault), vars(fault)))
+        run = solve(decay, (0, 1), [1])
+        self.assertEqual(pickle.loads(pickle.dumps(run)).at(0.3), run.at(0.3))
 
     def test_given(self):
         cases = ({"rtol": math.nan}, {"atol": [1, math.inf]}, {"rtol": [1, 1, 1]}, {"max_steps": -1}, {"max_steps": 1.5}, {"first_step": math.nan})

@@ -56,7 +56,7 @@ class Asking(Desk):
 
     def test_examples_are_circuits_alone(self):
         kinds = {path.suffix for path in EXAMPLES.iterdir() if path.name != "README.md"}
-        self.assertLessEqual(kinds, {".txt", ".svg", ".csv"})  # the last two are made by `run`, and not kept
+        self.assertLessEqual(kinds, {".txt", ".py", ".svg", ".csv"})  # the last two are made by running the others, and not kept
 
     def test_show_and_make(self):
         text, job = self.text("a.txt", "title C#4 is C# 4 # sharp\nnames a#\n" + FIRST), self.folder / "a.job"
