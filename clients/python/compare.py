@@ -3,7 +3,7 @@
 
     compare.py              prints the page docs/PUBLISHED-PROBLEMS.md; without SciPy its columns are left out
     compare.py --write      saves it
-    compare.py --quick      without the ring modulator, which takes minutes
+    compare.py --quick      without the ring modulator, which takes a quarter of an hour
     compare.py references   makes references.json by SciPy's Radau (wants SciPy; some minutes)
     compare.py cost         measures what a question costs over the pipe
 """
@@ -65,20 +65,15 @@ def scipys(problem, rtol):
     return [digits, len(run.t) - 1, run.nfev, run.njev]
 
 
-def rtols(problem):
-    """The ring modulator swings some hundred thousand times: at 1e-10 it would take more than the million steps that the solver allows."""
-    return RTOLS[:2] if problem is RING_MODULATOR else RTOLS
-
-
 def page(problems):
     known = references()["ends"]
     text = HEAD.format(scipy=f"SciPy {scipy.__version__}" if scipy else "not run: SciPy is not there")
-    text += "".join(f"- {problem.name}: from {problem.span[0]:g} to {problem.span[1]:g}, {sizes(problem)}\n" for problem in problems)
+    text += "".join(f"- {problem.name}: from {problem.span[0]:g} to {problem.span[1]:.7g}, {sizes(problem)}\n" for problem in problems)
     columns = ["problem", "rtol", "digits", "steps", "calls", "Jacobians"]
     columns += ["SciPy: digits", "steps", "calls", "Jacobians"] if scipy else []
     text += "\n" + row(columns) + row(["---"] * len(columns))
     for problem in problems:
-        for rtol in rtols(problem):
+        for rtol in RTOLS:
             text += row([problem.name, f"{rtol:g}", *ours(problem, rtol), *scipys(problem, rtol)])
     held = "".join(row([problem.name, f"{problem.digits(known[problem.name]):.1f}"]) for problem in problems if problem.name in known)
     return text + FOOT + held
