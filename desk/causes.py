@@ -5,7 +5,7 @@ from desk.packed import MAX_STEPS, value
 from desk.words import plain
 
 HAIR = 16  # units in the last place
-FAR = 1e7  # times the way to go: from there on rounding in x is felt
+FAR = 1e5  # times the way to go: from there on rounding in x is felt
 GROWN = 1e12  # times what a circuit began with
 NUDGES = (1e-12, -1e-12, 1e-9, -1e-9, 1e-6, -1e-6)  # by which part of the way xend is moved where it was missed by a hair
 
@@ -43,7 +43,7 @@ def no_room(job):
 def no_work(job):
     """Where the settings leave no attempt a chance."""
     if job.newton_maxiter < 2:
-        what = f"newton_maxiter is {job.newton_maxiter}{line(job, 'newton_maxiter')}"
+        what = f"newton_maxiter is {job.newton_maxiter}{line(job, 'newton_maxiter')}{', which counts as 1' if job.newton_maxiter == 0 else ''}"
         yield f"{what}: with a single pass of Newton's method an attempt succeeds only where there is nothing to correct; 4 is usual"
     if value(job.atol) == 0:
         none = [plain(name) for name, bits in zip(job.names, job.y0) if value(bits) == 0]
@@ -74,7 +74,7 @@ def why_unfinished(came, ends_at=lambda xend: False):
     if causes:
         return lines + [f"The likely cause: {cause}." for cause in causes]
     if came.ended[0] == "3":
-        return lines + ["The tolerances cannot be met: try larger ones."]
+        return lines + ["The step became too small for what is asked: try larger tolerances, and look for a number in A that is far too large."]
     if came.job.max_steps < MAX_STEPS:
         return lines + [f"Raise max_steps{line(came.job, 'max_steps')}, to {MAX_STEPS:,} at most, and run it again."]
     return lines + ["max_steps is already at its most: ask for a shorter run, or for less exactness."]
@@ -96,9 +96,9 @@ def progress(came):
     x0, xend, x = came.x0, came.xend, came.xs[-1]
     if x0 == xend:
         return f"xend is x0, {x0!r}: there is nothing to run."
-    words = f"It came to x = {x!r}, and xend is {xend!r}"
-    if math.isfinite(xend - x0) and math.isfinite(x):
-        words += f": {way(100 * (x - x0) / (xend - x0))} % of the way"
+    if not (math.isfinite(xend - x0) and math.isfinite(x)):
+        return "It did not reach its end."
+    words = f"It came to x = {x!r}, and xend is {xend!r}: {way(100 * (x - x0) / (xend - x0))} % of the way"
     return words + (". Do NOT take the last value for the end's." if came.fault else ". The last value is NOT the end's.")
 
 

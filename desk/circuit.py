@@ -39,6 +39,8 @@ def hint(text):
         return "; write the decimal point as a point, not as a comma, and no commas between digits"
     if any(dash in text for dash in "\u2010\u2011\u2012\u2013\u2014\u2212"):
         return "; write the minus as -"
+    if text.lower().lstrip("+-") in ("inf", "infinity", "nan"):
+        return f"; write {text.lower().replace('infinity', 'inf').replace('inf', 'infinity').lstrip('+')}"
     return ""
 
 

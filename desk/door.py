@@ -31,7 +31,7 @@ RUN_HELP = """\
 Runs each circuit, and then a second time at tolerances 100 times finer. The first line says how it ended:
 
   Success, and settled     the end was reached, and in the second run nothing moved by more than 1 in 100 of its size
-  Success, NOT SETTLED     the end was reached, but the values are not to be trusted: ask for more exactness (smaller rtol and atol)
+  Success, NOT SETTLED     the end was reached, but the values are not to be trusted: ask for more exactness (smaller rtol or atol)
   Success, unchecked       the end was reached; with --once there is no second run
   Success, but OVERFLOWED  a value became infinite on the way: do not use it
   .. UNFINISHED ..         the end was NOT reached; the last value is not the end's
@@ -45,7 +45,8 @@ stops early on purpose.
 READ_HELP = """\
 Reads lines that the job program printed earlier for a circuit, and says of them what `run` says. They are held against the whole job: where
 it begins, its limits, its counters, and then every line against what the program prints for it now. Lines that are cut off, thinned out or
-another job's never look finished.
+another job's never look finished. With --alone they are held against the job's beginning, limits and counters only: lines of the same job with
+another A would pass, and are called unchecked.
 """
 CHECK_HELP = """\
 Reads circuits or job files and says what is wrong, with the line, or that they can be run. Nothing is run and nothing is saved.
@@ -158,13 +159,14 @@ def run_all(asked):
     if not asked.files:
         return demonstration(how)
     program.command()  # built before the first file is named
-    found = [(path, one(path, how)) for path in asked.files]
+    found = [(path, one(path, how, len(asked.files) > 1)) for path in asked.files]
     return sum_up([(path, one_found.kind, one_found.in_short) for path, one_found in found])
 
 
-def one(path, how):
-    """The verdict on a file; a mistake in it does not stop the others."""
-    print(f"== {plain(path)}", flush=True)
+def one(path, how, named=True):
+    """The verdict on a file; a mistake in it does not stop the others. Where there are several, its name stands above."""
+    if named:
+        print(f"== {plain(path)}", flush=True)
     try:
         found = running.run(path, how)
     except Wrong as wrong:

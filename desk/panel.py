@@ -149,10 +149,9 @@ class Panel:
 
 
     def too_small(self, trace):
-        """A component that moves, by less than two pixels where another has the height of the panel."""
-        heights = [high - low for low, high in map(reach, self.traces)]
+        """A component that moves, by less than two pixels, since others share its axis."""
         low, high = reach(trace)
-        return 0 < high - low < 2 and max(heights) > self.height / 2 and not (self.axis and self.axis.log)
+        return 0 < high - low < 2 and len(self.members) > 1 and not (self.axis and self.axis.log)
 
 
 def reach(trace):

@@ -85,6 +85,7 @@ def plots(curve, verdict, log, top):
     marks, added = x_axis.axis.marks(panels[0].width, lambda label: width(label, panels[0].size) + 12)
     start, end = uncomputed(curve, x_axis, panels[0].width, places) if verdict.kind == "unfinished" else (0.0, 0.0)
     parts, notes = [], [x_axis.note, *missing_x(curve)]
+    source = plain(getattr(curve, "source", ""))
     for panel in panels:
         panel.take(curve, places, log)
         shade, words = panel.shade(start, end)
@@ -95,7 +96,7 @@ def plots(curve, verdict, log, top):
     after = x_axis.words + (f", {added}" if added else "")
     room = right - left - width(after, 14)
     parts.append(text((left + right) / 2, bottom + 44, shortened(plain(curve.axis), room, 14) + after, size=14, anchor="middle"))
-    lines = noted([note for note in notes if note])
+    lines = noted([note for note in (*notes, f"from {source}" if source and source != plain(curve.title) else "") if note])
     parts += [text(MARGIN, bottom + 72 + 19 * i, line, size=NOTE_SIZE, colour=GREY) for i, line in enumerate(lines)]
     return parts, bottom + 52 + 19 * len(lines), (left, right, top, bottom)
 

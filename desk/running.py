@@ -68,12 +68,12 @@ def judged(came, words, options):
         return found
     if options.once:
         return verdict.unchecked("--once")
-    why = "its tolerances have none to be compared with"
+    why = "its tolerances have none to be compared with (rtol must be below 1, and both finite and not 0)"
     for second in settled.seconds(came):
         other = program.run(words, second.job, f"the second run, at tolerances {second.words}")
         if verdict.of_run(other) is None or short_by_a_hair(other):
             with program.Progress(lambda: "comparing the two runs"):
-                return verdict.of_two(settled.moved(came, other), second, options.within)
+                return verdict.of_two(settled.moved(came, other), second, options.within, settled.growing(came))
         why = f"at tolerances {second.words} the second run has no end to compare with ({verdict.of_run(other).line})"
     return verdict.cannot_be_checked(why)
 
@@ -98,6 +98,7 @@ def report(path, came, found, options, words=None):
         lines += [f"Note: {cause}." for cause in causes.unusual(came.job)]
     lines += [plain(came.title), *table.table(came)]
     print("\n".join(lines), flush=True)
+    came.source = os.path.basename(path)
     svg = saving.marked(picture.draw(came, found, options.log), "<!-- {} -->", path, options.out)
     faults = [save(path, options.out, ".svg", svg, "picture")]
     if options.csv:

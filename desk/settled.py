@@ -13,6 +13,8 @@ FACTOR = 100
 # Doubles bear no finer one: Newton's own tolerance is 10 · 2^-52 / rtol at least, and below this it is coarser than the step's.
 LEAST_RTOL = 1e-13
 CONSTANT = 1e-13  # what is smaller, as a part of what it comes from, is rounding
+NOTHING = 1e-9  # of what feeds it: more is no balance
+GROWN = 100.0  # times as large: a circuit in which errors grow no more than this can be settled by comparing
 MOST_PLACES = 50_000  # at which the curves are compared
 
 
@@ -28,7 +30,7 @@ def seconds(came):
     doubles bear no finer one or none comes to an end. None has the tolerances that were asked."""
     job = came.job
     rtol, atol = value(job.rtol), value(job.atol)
-    if not all(map(math.isfinite, (rtol, atol))):
+    if not (math.isfinite(atol) and rtol < 1):  # with an rtol of 1 or more anything passes, in both runs
         return
     tried = None
     for factor in (FACTOR, 10):
@@ -42,7 +44,9 @@ def seconds(came):
 
 
 def second(job, rtol, atol, words, finer):
-    return Second(job.but(max_steps=MAX_STEPS, rtol=bits_of(rtol), atol=bits_of(atol)), words, finer)
+    """It finds its first step by itself: one that is given could take both runs over the same."""
+    tolerances = {"rtol": bits_of(min(rtol, 0.5)), "atol": bits_of(atol)}
+    return Second(job.but(max_steps=MAX_STEPS, automatic=True, first_step=0, **tolerances), words, finer)
 
 
 def largest(column):
@@ -55,8 +59,8 @@ class Moved:
 
     Its size is its largest value, or its swing where that is smaller: of a tone that rides on a supply the tone counts."""
 
-    def __init__(self, name, size, why=None):
-        self.name, self.size = name, size
+    def __init__(self, name, size, decides="rtol", why=None):
+        self.name, self.size, self.decides = name, size, decides  # which of the two tolerances counts for it
         self.why = why  # it cannot be settled, whatever it moved
         self.end = self.end_units = self.part = self.units = 0.0
 
@@ -100,21 +104,69 @@ def farthest(xs, column, other_xs, other_column, places):
 
 
 def judged_by(asked, other, i, atol):
-    """What the movement of a component is measured by."""
+    """What the movement of a component is measured by, and why it cannot be settled, where it cannot."""
     name, column = asked.names[i], other.ys[i]
     high = max(largest(column), largest(asked.ys[i]))
     if high <= rounding(asked, i):
         return Moved(name, math.inf)  # nothing but rounding: it is 0, and does not move
-    size = min(largest(column), max(column) - min(column)) or largest(column)
-    if size <= CONSTANT * largest(column):
-        size = largest(column)  # nothing but rounding in its swing: it is constant
-    return Moved(name, size, f"{name} stays below atol, {atol!r}: ask for a smaller atol" if 0 < high <= atol else None)
+    tolerance = value(asked.job.rtol) * high + atol
+    decides = "atol" if atol > tolerance / 2 else "rtol"
+    swing = max(swing_of(column), swing_of(asked.ys[i]))
+    if 0 < high <= atol:
+        return Moved(name, largest(column), decides, f"{name} stays below atol, {atol!r}, and was not computed")
+    if swing <= CONSTANT * high:
+        return Moved(name, largest(column), decides)  # it is constant
+    why = f"{name} swings by less than its tolerance, and its swing was not computed" if swing <= tolerance else None
+    return Moved(name, min(largest(column), swing_of(column) or math.inf), decides, why)
+
+
+def swing_of(column):
+    return max(column) - min(column)
 
 
 def rounding(came, i):
-    """How far rounding alone can carry a component away from 0: of balanced voltages that cancel in its row something is left."""
+    """How far rounding alone can carry a component away from 0: of balanced voltages that cancel in its row something is left. It is next to
+    nothing of what feeds it."""
     job, n = came.job, came.job.n
     row = [abs(value(bits)) for bits in job.a[i * n : (i + 1) * n]]
-    fed = sum(row[j] * largest(came.ys[j]) for j in range(n) if j != i)
+    feeds = [(row[j], largest(came.ys[j])) for j in range(n) if j != i and row[j] > 0]
+    if not feeds:
+        return 0.0
     time = abs(came.xs[-1] - came.xs[0])
-    return CONSTANT * fed * (min(time, 1 / row[i]) if row[i] > 0 else time) if fed > 0 else 0.0
+    reach = sum(a * y for a, y in feeds) * (min(time, 1 / row[i]) if row[i] > 0 else time)
+    return min(CONSTANT * reach, NOTHING * max(y for _, y in feeds))
+
+
+def growing(came):
+    """A component that what is too small to be computed can grow up to, and by how much anything grows; None where there is none. Both runs
+    could leave it out alike: errors as large as the tolerance at x0, carried on to the end by exp(A t)."""
+    job = came.job
+    n, rtol, atol = job.n, value(job.rtol), value(job.atol)
+    a = [[value(bits) for bits in job.a[i * n : (i + 1) * n]] for i in range(n)]
+    carried = exponential(a, abs(came.xs[-1] - came.xs[0]) * (1 if came.xs[-1] >= came.xs[0] else -1))
+    for name, column, row in zip(came.names, came.ys, carried):
+        found = sum(abs(x) * (atol + rtol * abs(other[0])) for x, other in zip(row, came.ys) if x != 0)
+        if not found <= largest(column) and max(map(abs, row)) > GROWN:
+            return name, max(map(abs, row))
+    return None
+
+
+def exponential(a, time):
+    """exp(a · time), by its series for a part of the time that is small, doubled again and again."""
+    n = len(a)
+    norm = max(sum(map(abs, row)) for row in a) * abs(time)
+    doublings = max(0, math.frexp(norm)[1] + 2) if norm < math.inf else 0
+    part = [[x * (time / 2.0**doublings) for x in row] for row in a]
+    term = [[float(i == j) for j in range(n)] for i in range(n)]
+    total = [row[:] for row in term]
+    for k in range(1, 13):
+        term = [[x / k for x in row] for row in product(term, part)]
+        total = [[x + y for x, y in zip(one, other)] for one, other in zip(total, term)]
+    for _ in range(doublings):
+        total = product(total, total)
+    return total
+
+
+def product(one, other):
+    columns = list(zip(*other))
+    return [[sum(x * y for x, y in zip(row, column) if x and y) for column in columns] for row in one]

@@ -62,18 +62,26 @@ def not_saved(found, fault):
     return Verdict(MISTAKE, fault, in_short=f"{found.in_short}, but NOT SAVED")
 
 
-def of_two(moved, second, within):
+def of_two(moved, second, within, growing=None):
     """Of a finished run and what moved in a second one."""
     worst = max(moved, key=lambda one: one.part)
     if worst.part > within:
-        advice = "ask for more exactness" if second.finer else "doubles bear no more exactness, so ask for a shorter run"
-        line = f"Success, NOT SETTLED: {advice}; at tolerances {second.words} {worst.name} moves by {part(worst.part)} of its size"
-        return Verdict(NOT_SETTLED, line, moved)
+        advice = f"ask for more exactness (a smaller {worst.decides})" if second.finer else "doubles bear no more exactness here"
+        return not_settled(f"{advice}; at tolerances {second.words} {worst.name} moves by {part(worst.part)} of its size", moved)
     for one in moved:
         if one.why:
-            return Verdict(NOT_SETTLED, f"Success, NOT SETTLED: ask for more exactness; {one.why}", moved)
+            return not_settled(f"ask for more exactness (a smaller {one.decides}); {one.why}", moved)
+    if growing:
+        name, factor = growing
+        words = f"this circuit can grow by {factor:.2g}, so that what is too small to be computed may come to the size of {name}"
+        return not_settled(f"ask for more exactness; {words}", moved)
     how = "settled" if within == USUAL else f"settled within {within:g}"
-    return Verdict(SETTLED, f"Success, and {how}: at tolerances {second.words} nothing moves by more than {part(worst.part)} of its size", moved)
+    line = f"Success, and {how}: at tolerances {second.words} nothing moves by more than {part(worst.part)} of its size"
+    return Verdict(SETTLED, line, moved, f"Success, and {how}")
+
+
+def not_settled(words, moved):
+    return Verdict(NOT_SETTLED, f"Success, NOT SETTLED: {words}", moved)
 
 
 def part(x):

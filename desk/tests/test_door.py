@@ -100,7 +100,7 @@ class Running(Desk):
         ):
             came, out, said = self.run_text(text)
             self.assertEqual((came, said), (status, ""), text)
-            self.assertTrue(out.split("\n")[1].startswith(first_line), out)
+            self.assertTrue(out.startswith(first_line), out)
             self.assertTrue((self.folder / "a.svg").exists())
 
     def test_overflowed_once(self):
@@ -112,7 +112,7 @@ class Running(Desk):
         job.write_bytes(form(1, max_steps=0).packed())
         status, out, _ = self.desk("run", job)
         self.assertEqual(status, 4)
-        self.assertTrue(out.split("\n")[1].startswith("REFUSED by number 6: max_steps is 0; nothing was computed"))
+        self.assertTrue(out.startswith("REFUSED by number 6: max_steps is 0; nothing was computed"))
         self.assertEqual(self.run_text(FIRST.replace("rtol ", "rtol -"))[0], 4)
 
     def test_all_are_run_and_the_worst_decides(self):
@@ -123,6 +123,7 @@ class Running(Desk):
         for words in ("wrong.txt: a mistake; ", "refused.txt: REFUSED; ", "few.txt: UNFINISHED; ", "good.txt: Success, and settled; ", "none.txt: a mistake"):
             self.assertIn(words, out.rstrip("\n").split("\n")[-1])
         self.assertIn("wrong.txt, line 4: ", said)
+        self.assertIn(f"== {paths['few']}\nNeedLargerNMax: UNFINISHED, ", out)
         for some, status in ((("good", "few"), 3), (("few", "refused"), 4), (("refused", "good"), 4), (("good",), 0), (("wrong", "good"), 2)):
             self.assertEqual(self.desk("run", *(paths[name] for name in some))[0], status)
 
@@ -155,7 +156,7 @@ class Running(Desk):
         for old, new, words in (
             ("y0 1", "y0 nan", "The likely cause: y0 has no number (NaN) for y1 (line 9)."),
             ("  -1\n", "  infinity\n", "The likely cause: A has infinity in row 1, column 1 (line 11)."),
-            ("newton_maxiter 4", "newton_maxiter 0", "The likely cause: newton_maxiter is 0 (line 3): with a single pass of Newton's method"),
+            ("newton_maxiter 4", "newton_maxiter 0", "The likely cause: newton_maxiter is 0 (line 3), which counts as 1: with a single pass of Newton's method"),
             ("rtol 1e-3", "rtol nan", "rtol is no number (NaN) (line 7)."),
             ("xend 1", "xend infinity", "The likely cause: xend is infinity (line 5)."),
             ("x0 0", "x0 -infinity", "The likely cause: x0 is -infinity (line 4)."),
@@ -187,7 +188,7 @@ class Running(Desk):
         came.fault, came.ended, came.xs, came.ys = None, ["2"], [0.0, 1.0], [[1.0, 1.0], [0.0, 0.0]]
         self.assertEqual(causes.why_unfinished(came)[1], "max_steps is already at its most: ask for a shorter run, or for less exactness.")
         came.ended, came.xend = ["3"], 2.0
-        self.assertEqual(causes.why_unfinished(came)[1], "The tolerances cannot be met: try larger ones.")
+        self.assertEqual(causes.why_unfinished(came)[1].split(":")[0], "The step became too small for what is asked")
         self.assertIn("50 % of the way", causes.why_unfinished(came)[0])
 
     def test_notes_on_a_run_that_ended(self):
@@ -270,7 +271,7 @@ class Running(Desk):
             with mock.patch.dict(os.environ, {"RUN_JOB": f'sh -c "{script}"'}):
                 status, out, _ = self.run_text(FIRST)
             self.assertEqual(status, 3, script)
-            self.assertIn("UNFINISHED", out.split("\n")[1])
+            self.assertIn("UNFINISHED", out.split("\n")[0])
         for given in (" ", '"abc'):
             with mock.patch.dict(os.environ, {"RUN_JOB": given}):
                 self.assertEqual(self.run_text(FIRST)[0::2], (2, f"RUN_JOB is {given!r}, which is no command\n"))
@@ -318,9 +319,10 @@ class Running(Desk):
         """Component by component, below the first line; and the part that was allowed, where it is another."""
         _, out, _ = self.run_text(ring(1e-7, 1e-10, 0.05), "--within", "0.05")
         lines = out.split("\n")
-        self.assertTrue(lines[1].startswith("Success, and settled within 0.05: "))
-        self.assertRegex(lines[4], r"^  u( +[0-9.e+-]+){5}$")
-        self.assertRegex(lines[5], r"^  v( +[0-9.e+-]+){5}$")
+        self.assertTrue(lines[0].startswith("Success, and settled within 0.05: "))
+        self.assertRegex(lines[3], r"^  u( +[0-9.e+-]+){5}$")
+        self.assertRegex(lines[4], r"^  v( +[0-9.e+-]+){5}$")
+        self.assertTrue(lines[-2].endswith("a.txt: Success, and settled within 0.05"))
 
 
 @wants_the_program

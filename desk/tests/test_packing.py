@@ -106,6 +106,8 @@ class Telling(unittest.TestCase):
             ("max_steps 100000", "max_steps 1,000,000", "(such as 0, 4 or 1000); write digits alone"),
             ("x0 0", "x0 1,5e-3", "; write the decimal point as a point, not as a comma, and no commas between digits"),
             ("x0 0", "x0 \u22125", "; write the minus as -"),
+            ("x0 0", "x0 -Inf", "; write -infinity"),
+            ("x0 0", "x0 NaN", "; write nan"),
             ("rtol 1e-3", "rtol=1e-3", "t, line 7: 'rtol=1e-3': write rtol 1e-3; "),
         ]
         for old, new, words in wrong:

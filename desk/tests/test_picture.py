@@ -81,8 +81,16 @@ class Components(Picture):
         xs = even(0, 1, 50)
         large, small = of(lambda x: 1000 * math.sin(3 * x), xs), of(lambda x: math.cos(9 * x), xs)
         self.assertTrue(Drawn(curve(xs, large, small)).said("V2 is too small to be seen beside the others"))
+        self.assertTrue(Drawn(curve(xs, [12000.0] * 50, small)).said("V2 is too small to be seen beside the others"))
         for run in (curve(xs, large, [1.0] * 50), curve(xs, small, small), curve(xs, small)):
             self.assertFalse(Drawn(run).said("too small"))
+
+    def test_from_which_file_it_is(self):
+        run = curve(even(0, 1, 9), even(0, 1, 9))
+        run.source = "a.txt"
+        self.assertTrue(Drawn(run).said("from a.txt"))
+        run.title = "a.txt"
+        self.assertFalse(Drawn(run).said("from a.txt"))
 
     def test_nine_tenths_of_the_range_make_them_one(self):
         """The range and not the points: most of these lie where the curves are together."""

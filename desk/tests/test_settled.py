@@ -96,10 +96,41 @@ class Moving(unittest.TestCase):
         """It was not computed, whether it moved or not."""
         xs = grid(10)
         for size, why in ((1e-20, True), (1e-6, True), (1.1e-6, False), (0.0, False)):
-            came = run_through(xs, [size] * 11)
+            came = run_through(xs, [size * (i % 2) for i in range(11)])
             one = settled.moved(came, came)[0]
             self.assertEqual(one.why is not None, why, size)
-        self.assertIn("y1 stays below atol, 1e-06: ask for a smaller atol", settled.moved(run_through(xs, [1e-9] * 11), run_through(xs, [1e-9] * 11))[0].why)
+        self.assertIn("y1 stays below atol, 1e-06, and was not computed", settled.moved(run_through(xs, [1e-9] * 11), run_through(xs, [1e-9] * 11))[0].why)
+
+    def test_a_swing_below_its_tolerance(self):
+        """It was not computed either: a tone of 1 mV on 12 V at rtol 1e-3, whose tolerance is 12 mV."""
+        xs = grid(100)
+        for swing, why in ((0.001, True), (0.011, True), (0.013, False), (0.0, False)):
+            came = run_through(xs, [12 + swing * (i % 2) for i in range(101)])
+            one = settled.moved(came, came)[0]
+            self.assertEqual(one.why is not None, why, swing)
+            self.assertEqual(one.decides, "rtol")
+        self.assertEqual(settled.moved(run_through(xs, xs, atol="1"), run_through(xs, xs, atol="1"))[0].decides, "atol")
+
+    def test_what_can_grow_from_nothing(self):
+        """A latch that is balanced but for a millionth; not a ring, a decay, or what grows from the start on."""
+        xs = grid(10, 0.05)
+        came = run_through(xs, [1.0] * 11, [0.999999] * 11, a=[499.5, -500.5, -500.5, 499.5])
+        name, factor = settled.growing(came)
+        self.assertEqual(name, "y1")
+        self.assertAlmostEqual(factor / (math.exp(50) / 2), 1, 6)
+        for a, columns in (([-1.0], [[math.exp(-x) for x in xs]]), ([0.0, 2764.0, -2764.0, 0.0], [[1.0] * 11] * 2), ([1000.0], [[math.exp(1000 * x) for x in xs]])):
+            self.assertIsNone(settled.growing(run_through(xs, *columns, a=a)))
+        backward = run_through([-x for x in xs], [1.0] * 11, [0.999999] * 11, a=[-499.5, 500.5, 500.5, -499.5])
+        self.assertIsNotNone(settled.growing(backward))
+
+    def test_the_exponential(self):
+        turn = settled.exponential([[0.0, 3.0], [-3.0, 0.0]], 2.0)
+        for found, true in zip(sum(turn, []), (math.cos(6), math.sin(6), -math.sin(6), math.cos(6))):
+            self.assertAlmostEqual(found, true, 12)
+        stiff = settled.exponential([[-1e6, 0.0], [1.0, -1.0]], 1.0)
+        self.assertEqual(stiff[0], [0.0, 0.0])
+        self.assertAlmostEqual(stiff[1][1], math.exp(-1), 8)
+        self.assertEqual(settled.exponential([[1000.0]], 10.0), [[math.inf]])
 
     def test_what_is_nothing_but_rounding(self):
         """Balanced voltages leave something in the component that they feed: that is 0, and neither moves nor stays below atol."""
@@ -111,6 +142,8 @@ class Moving(unittest.TestCase):
         self.assertEqual((found.part, found.why), (0, None))
         came = run_through(xs, ones, ones, [1e-10] * 11, a=row)
         self.assertIsNotNone(settled.moved(came, came)[2].why)
+        fast = run_through(xs, ones, [x for x in xs], a=[-1e14, 0, 1e14, -0.5])  # what feeds it is gone at once: that is no balance
+        self.assertEqual(settled.moved(fast, fast)[1].size, 1)
 
     def test_an_end_a_hair_beyond(self):
         xs, others = grid(10), grid(20)[:-1] + [1.0000000000000002]
@@ -179,7 +212,7 @@ class Second(unittest.TestCase):
         self.assertEqual(len(self.seconds("1e-12", "1e-30")), 2)
 
     def test_none(self):
-        for rtol, atol in (("infinity", "1e-3"), ("1e-3", "infinity"), ("nan", "1"), ("1", "nan"), ("0", "0")):
+        for rtol, atol in (("1", "1e-3"), ("1e5", "1e-3"), ("infinity", "1e-3"), ("1e-3", "infinity"), ("nan", "1"), ("1", "nan"), ("0", "0")):
             self.assertEqual(self.seconds(rtol, atol), [], (rtol, atol))
 
     def test_the_limit_is_the_largest(self):
@@ -187,6 +220,7 @@ class Second(unittest.TestCase):
         came.ys = [[1.0]]
         one = next(settled.seconds(came))
         self.assertEqual((one.job.max_steps, one.job.newton_maxiter, one.job.xend), (1_000_000, 4, 0x3FF0 << 48))
+        self.assertEqual((one.job.automatic, one.job.first_step), (True, 0))  # a step that is given could take both over the same
 
 
 class Saying(unittest.TestCase):
@@ -196,7 +230,7 @@ class Saying(unittest.TestCase):
         """Each part is moved on the way, and nothing at the end."""
         moved = []
         for i, part in enumerate(parts):
-            moved.append(settled.Moved(f"V{i + 1}", 1.0, why))
+            moved.append(settled.Moved(f"V{i + 1}", 1.0, "atol", why))
             moved[-1].take(part, 1e-4)
             moved[-1].take(0.0, 1e-4)
         return verdict.of_two(moved, settled.Second(None, "100 times finer" if finer else "100 times coarser", finer), within)
@@ -210,8 +244,8 @@ class Saying(unittest.TestCase):
         self.assertEqual((verdict.USUAL, running.Options().within), (0.01, 0.01))
 
     def test_not_settled(self):
-        below = self.said(0.0, why="V1 stays below atol, 1: ask for a smaller atol")
-        self.assertIn("; V1 stays below atol, 1: ask for a smaller atol", below.line)
+        below = self.said(0.0, why="V1 stays below atol, 1, and was not computed")
+        self.assertIn(" (a smaller atol); V1 stays below atol, 1, and was not computed", below.line)
         for found in (self.said(0.010000001), self.said(0.0, 0.5), self.said(math.inf), self.said(0.002, within=0.001), below):
             self.assertEqual(found.kind, verdict.NOT_SETTLED)
             self.assertTrue(found.line.startswith("Success, NOT SETTLED: ask for more exactness"))
@@ -240,14 +274,14 @@ class Running(Desk):
 
     def first_line(self, text, *options):
         status, out, _ = self.desk("run", self.text("a.txt", text), *options)
-        return status, out.split("\n")[1]
+        return status, out.split("\n")[0]
 
     def test_a_ring_over_a_second(self):
         """It ends in Success at 0.44 where 0.861 is true, and then at 0.77."""
         for rtol, atol in ((1e-3, 1e-6), (1e-4, 1e-7)):
             status, line = self.first_line(ring(rtol, atol))
             self.assertEqual(status, 3)
-            self.assertTrue(line.startswith("Success, NOT SETTLED: ask for more exactness; at tolerances 100 times finer "), line)
+            self.assertTrue(line.startswith("Success, NOT SETTLED: ask for more exactness (a smaller rtol); at tolerances 100 times finer "), line)
         self.assertIn('fill="#B36B00"', (self.folder / "a.svg").read_text())
         self.assertIn(">NOT SETTLED<", (self.folder / "a.svg").read_text())
 
@@ -326,8 +360,14 @@ class Running(Desk):
         supply = supply.replace("y0 1", "y0 12.02 12 12").replace("  0\n", "  -2 2764.6 -2762.6\n  -2764.6 -2 2766.6\n  0 0 0\n")
         small = FIRST.replace("first_step 0.5", "first_step automatic").replace("y0 1", "y0 1e-20").replace("  0\n", "  60\n")
         step = FIRST.replace("first_step 0.5", "first_step 10").replace("xend 1", "xend 10").replace("atol 1e-6", "atol 1").replace("y0 1", "y0 1e-6").replace("  0\n", "  -1\n")
-        for text in (supply, small, step):
-            self.assertTrue(self.first_line(text)[1].startswith("Success, NOT SETTLED: ask for more exactness; "))
+        latch = FIRST.replace("n 1", "n 2").replace("xend 1", "xend 0.05").replace("y0 1", "y0 1 0.999999").replace("  0\n", "  499.5 -500.5\n  -500.5 499.5\n")
+        latch = latch.replace("first_step 0.5", "first_step automatic").replace("atol 1e-6", "atol 1e-5")
+        faint = FIRST.replace("n 1", "n 2").replace("xend 1", "xend 0.002").replace("first_step 0.5", "first_step automatic")
+        faint = faint.replace("y0 1", "y0 47.9999 48").replace("  0\n", "  -1000 1000\n  0 0\n")
+        coarse = FIRST.replace("xend 1", "xend 3").replace("first_step 0.5", "first_step 3").replace("rtol 1e-3", "rtol 1e5").replace("  0\n", "  -1\n")
+        for text in (supply, small, step, latch, faint, coarse):
+            self.assertTrue(self.first_line(text)[1].startswith("Success, NOT SETTLED: "), text)
+        self.assertIn("this circuit can grow by 2.6e+21", self.first_line(latch)[1])
         balanced = FIRST.replace("n 1", "n 3").replace("y0 1", "y0 1 1 0").replace("  0\n", "  -1.1 0.1 0\n  0.1 -1.1 0\n  3 -3 -7\n").replace("rtol 1e-3", "rtol 1e-6")
         self.assertTrue(self.first_line(balanced)[1].startswith("Success, and settled: "))
 
