@@ -38,9 +38,9 @@ Runs each circuit, and then a second time at tolerances 100 times finer. The fir
   REFUSED by number ..     nothing was computed
 
 Below it stands by how much each component moved, at the end and at most between, as a part of its size (its largest value, or its swing
-where that is smaller) and in units of the tolerance that was asked; then some rows of the run and its counters. The picture is saved beside the circuit: a.txt makes a.svg. Nothing
-that is not of our own making is replaced: if there is another a.svg, it is a-2.svg. Without a file it runs two examples, one of which
-stops early on purpose.
+where that is smaller) and in units of the tolerance that was asked; then some rows of the run and its counters. The picture is saved beside
+the circuit: a.txt makes a.svg. Nothing that is not of our own making is replaced: if there is another a.svg, it is a-2.svg. Without a file
+it runs two examples, one of which stops early on purpose.
 """
 READ_HELP = """\
 Reads lines that the job program printed earlier for a circuit, and says of them what `run` says. They are held against the whole job: where
@@ -120,7 +120,8 @@ def door(name, usage, words, after, act):
 
 
 def how_to_judge_and_save(parser):
-    parser.add_argument("--within", type=part, default=USUAL, metavar="PART", help="settled means: nothing moves by more than this part of its size; 0.01 unless given, 0.1 at most")
+    within = "settled means: nothing moves by more than this part of its size; 0.01 unless given, 0.1 at most"
+    parser.add_argument("--within", type=part, default=USUAL, metavar="PART", help=within)
     parser.add_argument("--csv", action="store_true", help="also save every step as numbers, beside the picture: a.csv")
     parser.add_argument("--log", choices=("x", "y", "xy", "never"), help="logarithmic axes in the picture; without it only where a linear one shows nothing")
     parser.add_argument("--out", metavar="FOLDER", help="save the picture and the numbers there; it is made if it is not there")

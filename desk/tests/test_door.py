@@ -219,8 +219,9 @@ class Running(Desk):
         self.assertNotIn("\x08", self.desk("run", overflows)[1])
 
     def test_colours_on_a_terminal(self):
-        for text, colour in ((FIRST, "\x1b[1;32mSuccess, and settled"), (ring(0.1, 1e-6, 0.1), "\x1b[1;33mSuccess, NOT SETTLED"), (FEW, "\x1b[1;31mNeedLargerNMax")):
-            self.assertIn(colour, self.on_a_terminal(text))
+        amber = ring(0.1, 1e-6, 0.1)
+        for text, colour in ((FIRST, "32mSuccess, and settled"), (amber, "33mSuccess, NOT SETTLED"), (FEW, "31mNeedLargerNMax")):
+            self.assertIn(f"\x1b[1;{colour}", self.on_a_terminal(text))
             self.assertNotIn("\x1b", self.on_a_terminal(text, NO_COLOR="1"))
 
     def on_a_terminal(self, text, **more):
@@ -350,7 +351,8 @@ class Reading(Desk):
         text = ring(1e-6, 1e-9, 0.01)
         lines = self.printed(text)
         self.assertEqual(self.read(lines, text)[0], 0)
-        for old, new in (("x0 0", "x0 1e-9"), ("y0 1 0", "y0 1 1e-9"), ("rtol 1e-06", "rtol 1e-7"), ("atol 1e-09", "atol 1e-8"), ("-0.15 ", "-0.16 "), ("1000000", "3"), ("xend 0.01", "xend 0.0101")):
+        begun = (("x0 0", "x0 1e-9"), ("y0 1 0", "y0 1 1e-9"), ("xend 0.01", "xend 0.0101"), ("1000000", "3"))
+        for old, new in (*begun, ("rtol 1e-06", "rtol 1e-7"), ("atol 1e-09", "atol 1e-8"), ("-0.15 ", "-0.16 ")):
             self.assertIn(old, text)
             status, out, _ = self.read(lines, text.replace(old, new, 1))
             self.assertEqual(status, 3, new)

@@ -62,6 +62,49 @@ class Packing(unittest.TestCase):
 class Telling(unittest.TestCase):
     """What is wrong with a text is told with its line."""
 
+    # What stands in a text, what is put in its place, and what is told.
+    WRONG = [
+        ("x0 0", "x0 0,5", "t, line 4: 0,5 is no number (such as 0.5, -1e-3, infinity, or 0x and 16 digits); write the decimal point as a point"),
+        ("x0 0", "x0 \u22121", "t, line 4: \u22121 is no number"),
+        ("x0 0", "x0 0x3FF", "t, line 4: 0x3FF: after 0x come the 16"),
+        ("x0 0", "x0 1e999", "t, line 4: 1e999 is too large"),
+        ("x0 0", "x0 1e-999", "t, line 4: 1e-999 is too small"),
+        ("x0 0", "x0 0 1", "t, line 4: x0 wants one value, here are 2"),
+        ("x0 0", "start 0", "t, line 4: 'start': a line begins with one of"),
+        ("x0 0", "xend 0", "t, line 5: xend already stands in line 4"),
+        ("x0 0", "# x0 0", "t: there is no line that begins with x0"),
+        ("n 1", "n 33", "t, line 1: n is 33, above 32 (the job program would refuse it by number 1)"),
+        ("n 1", "n one", "t, line 1: one is no whole number"),
+        ("n 1", "n -1", "t, line 1: -1 is no whole number"),
+        ("n 1", "n \u0661", "t, line 1: \u0661 is no whole number"),
+        ("n 1", "n 1" + 5000 * "0", "0 is no whole number that a job can have"),
+        ("n 1", "n 2", "t, line 9: y0 has 1 number, but n is 2"),
+        ("  0\n", "  0\n  1\n", "t, line 10: A has 2 rows, but n is 1"),
+        ("  0\n", "  0 1\n", "t, line 11: row 1 of A has 2 numbers, but n is 1"),
+        ("  0\n", "  zero\n", "t, line 11: zero is no number"),
+        ("max_steps 100000", "max_steps 0", "t, line 2: max_steps is 0"),
+        ("max_steps 100000", "max_steps 1000001", "t, line 2: max_steps is 1000001, above 1,000,000 ("),
+        ("newton_maxiter 4", "newton_maxiter 65", "t, line 3: newton_maxiter is 65, above 64 ("),
+        ("rtol 1e-3", "rtol -1e-3", "t, line 7: rtol is below 0"),
+        ("first_step 0.5", "first_step -0.0", "t, line 6: first_step is 0; write automatic"),
+        ("y0 1", "y0 1\nnames a b", "t, line 10: names has 2, but n is 1"),
+        ("y0 1", "y0 1\nnames", "t, line 10: names has 0, but n is 1"),
+        ("rtol 1e-3", "Rtol 1e-3", "t, line 7: 'Rtol': write rtol; a line begins with one of"),
+        ("max_steps 100000", "max_step 100000", "t, line 2: 'max_step': write max_steps; "),
+        ("newton_maxiter 4", "Newton-MaxIter 4", "t, line 3: 'Newton-MaxIter': write newton_maxiter; "),
+        ("xend 1", "xend: 1", "t, line 5: 'xend:': write xend; "),
+        ("A\n  0\n", "A\n  0\nTitle x\n", "t, line 12: 'Title': write title; "),
+        ("x0 0", "x0 0#from here", "t, line 4: x0 wants one value, here are 2"),
+        ("x0 0", "x0 0#start", "t, line 4: 0#start is no number (such as 0.5, -1e-3, infinity, or 0x and 16 digits); before the # of a comment leave a blank"),
+        ("n 1", "n 1#", "t, line 1: 1# is no whole number that a job can have (such as 0, 4 or 1000); write digits alone"),
+        ("max_steps 100000", "max_steps 1,000,000", "(such as 0, 4 or 1000); write digits alone"),
+        ("x0 0", "x0 1,5e-3", "; write the decimal point as a point, not as a comma, and no commas between digits"),
+        ("x0 0", "x0 \u22125", "; write the minus as -"),
+        ("x0 0", "x0 -Inf", "; write -infinity"),
+        ("x0 0", "x0 NaN", "; write nan"),
+        ("rtol 1e-3", "rtol=1e-3", "t, line 7: 'rtol=1e-3': write rtol 1e-3; "),
+    ]
+
     def told(self, old, new):
         self.assertIn(old, FIRST)
         with self.assertRaises(packed.Wrong) as told:
@@ -69,48 +112,7 @@ class Telling(unittest.TestCase):
         return told.exception
 
     def test_by_line(self):
-        wrong = [
-            ("x0 0", "x0 0,5", "t, line 4: 0,5 is no number (such as 0.5, -1e-3, infinity, or 0x and 16 digits); write the decimal point as a point"),
-            ("x0 0", "x0 \u22121", "t, line 4: \u22121 is no number"),
-            ("x0 0", "x0 0x3FF", "t, line 4: 0x3FF: after 0x come the 16"),
-            ("x0 0", "x0 1e999", "t, line 4: 1e999 is too large"),
-            ("x0 0", "x0 1e-999", "t, line 4: 1e-999 is too small"),
-            ("x0 0", "x0 0 1", "t, line 4: x0 wants one value, here are 2"),
-            ("x0 0", "start 0", "t, line 4: 'start': a line begins with one of"),
-            ("x0 0", "xend 0", "t, line 5: xend already stands in line 4"),
-            ("x0 0", "# x0 0", "t: there is no line that begins with x0"),
-            ("n 1", "n 33", "t, line 1: n is 33, above 32 (the job program would refuse it by number 1)"),
-            ("n 1", "n one", "t, line 1: one is no whole number"),
-            ("n 1", "n -1", "t, line 1: -1 is no whole number"),
-            ("n 1", "n \u0661", "t, line 1: \u0661 is no whole number"),
-            ("n 1", "n 1" + 5000 * "0", "0 is no whole number that a job can have"),
-            ("n 1", "n 2", "t, line 9: y0 has 1 number, but n is 2"),
-            ("  0\n", "  0\n  1\n", "t, line 10: A has 2 rows, but n is 1"),
-            ("  0\n", "  0 1\n", "t, line 11: row 1 of A has 2 numbers, but n is 1"),
-            ("  0\n", "  zero\n", "t, line 11: zero is no number"),
-            ("max_steps 100000", "max_steps 0", "t, line 2: max_steps is 0"),
-            ("max_steps 100000", "max_steps 1000001", "t, line 2: max_steps is 1000001, above 1,000,000 ("),
-            ("newton_maxiter 4", "newton_maxiter 65", "t, line 3: newton_maxiter is 65, above 64 ("),
-            ("rtol 1e-3", "rtol -1e-3", "t, line 7: rtol is below 0"),
-            ("first_step 0.5", "first_step -0.0", "t, line 6: first_step is 0; write automatic"),
-            ("y0 1", "y0 1\nnames a b", "t, line 10: names has 2, but n is 1"),
-            ("y0 1", "y0 1\nnames", "t, line 10: names has 0, but n is 1"),
-            ("rtol 1e-3", "Rtol 1e-3", "t, line 7: 'Rtol': write rtol; a line begins with one of"),
-            ("max_steps 100000", "max_step 100000", "t, line 2: 'max_step': write max_steps; "),
-            ("newton_maxiter 4", "Newton-MaxIter 4", "t, line 3: 'Newton-MaxIter': write newton_maxiter; "),
-            ("xend 1", "xend: 1", "t, line 5: 'xend:': write xend; "),
-            ("A\n  0\n", "A\n  0\nTitle x\n", "t, line 12: 'Title': write title; "),
-            ("x0 0", "x0 0#from here", "t, line 4: x0 wants one value, here are 2"),
-            ("x0 0", "x0 0#start", "t, line 4: 0#start is no number (such as 0.5, -1e-3, infinity, or 0x and 16 digits); before the # of a comment leave a blank"),
-            ("n 1", "n 1#", "t, line 1: 1# is no whole number that a job can have (such as 0, 4 or 1000); write digits alone"),
-            ("max_steps 100000", "max_steps 1,000,000", "(such as 0, 4 or 1000); write digits alone"),
-            ("x0 0", "x0 1,5e-3", "; write the decimal point as a point, not as a comma, and no commas between digits"),
-            ("x0 0", "x0 \u22125", "; write the minus as -"),
-            ("x0 0", "x0 -Inf", "; write -infinity"),
-            ("x0 0", "x0 NaN", "; write nan"),
-            ("rtol 1e-3", "rtol=1e-3", "t, line 7: 'rtol=1e-3': write rtol 1e-3; "),
-        ]
-        for old, new, words in wrong:
+        for old, new, words in self.WRONG:
             told = self.told(old, new)
             self.assertIn(words, str(told))
             # a refusal ends in its number; a mistake of the text alone has none

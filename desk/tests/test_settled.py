@@ -25,6 +25,12 @@ def run_through(xs, *columns, rtol="1e-3", atol="1e-6", a=None):
     return came
 
 
+def circuit_of(y0, *rows, xend="1", first_step="automatic", rtol="1e-3", atol="1e-6"):
+    """A circuit's text, from y0 and the rows of A."""
+    head = f"n {len(rows)}\nmax_steps 200000\nnewton_maxiter 4\nx0 0\nxend {xend}\nfirst_step {first_step}\nrtol {rtol}\natol {atol}\ny0 {y0}\nA\n"
+    return head + "".join(f"  {row}\n" for row in rows)
+
+
 def grid(count, end=1.0):
     return [end * i / count for i in range(count + 1)]
 
@@ -346,7 +352,8 @@ class Running(Desk):
             tried.append(value(job.rtol))
             return asked if len(tried) in ends else unfinished
 
-        for ends, words in (((2,), "at tolerances 10 times finer nothing"), ((3,), "at tolerances 100 times coarser (finer ones cannot be had) nothing"), ((), None)):
+        ten, coarser = "at tolerances 10 times finer nothing", "at tolerances 100 times coarser (finer ones cannot be had) nothing"
+        for ends, words in (((2,), ten), ((3,), coarser), ((), None)):
             tried.clear()
             with mock.patch.object(program, "run", lambda *args: run(*args, ends=ends)):
                 found = running.judged(asked, [], running.Options())
@@ -355,20 +362,17 @@ class Running(Desk):
             self.assertIn(words or "it could not be checked: at tolerances 100 times coarser", found.line)
 
     def test_what_a_trial_found(self):
-        """Each was once called settled, and was wrong: a tone on a supply, and what stays below atol."""
-        supply = FIRST.replace("n 1", "n 3").replace("xend 1", "xend 0.1").replace("first_step 0.5", "first_step automatic").replace("rtol 1e-3", "rtol 2e-5")
-        supply = supply.replace("y0 1", "y0 12.02 12 12").replace("  0\n", "  -2 2764.6 -2762.6\n  -2764.6 -2 2766.6\n  0 0 0\n")
-        small = FIRST.replace("first_step 0.5", "first_step automatic").replace("y0 1", "y0 1e-20").replace("  0\n", "  60\n")
-        step = FIRST.replace("first_step 0.5", "first_step 10").replace("xend 1", "xend 10").replace("atol 1e-6", "atol 1").replace("y0 1", "y0 1e-6").replace("  0\n", "  -1\n")
-        latch = FIRST.replace("n 1", "n 2").replace("xend 1", "xend 0.05").replace("y0 1", "y0 1 0.999999").replace("  0\n", "  499.5 -500.5\n  -500.5 499.5\n")
-        latch = latch.replace("first_step 0.5", "first_step automatic").replace("atol 1e-6", "atol 1e-5")
-        faint = FIRST.replace("n 1", "n 2").replace("xend 1", "xend 0.002").replace("first_step 0.5", "first_step automatic")
-        faint = faint.replace("y0 1", "y0 47.9999 48").replace("  0\n", "  -1000 1000\n  0 0\n")
-        coarse = FIRST.replace("xend 1", "xend 3").replace("first_step 0.5", "first_step 3").replace("rtol 1e-3", "rtol 1e5").replace("  0\n", "  -1\n")
-        for text in (supply, small, step, latch, faint, coarse):
+        """Each was once called settled, and was wrong: a tone on a supply, what stays below its tolerance, a latch, a single step."""
+        supply = circuit_of("12.02 12 12", "-2 2764.6 -2762.6", "-2764.6 -2 2766.6", "0 0 0", xend="0.1", rtol="2e-5")
+        faint = circuit_of("47.9999 48", "-1000 1000", "0 0", xend="0.002")
+        small = circuit_of("1e-20", "60")
+        latch = circuit_of("1 0.999999", "499.5 -500.5", "-500.5 499.5", xend="0.05", atol="1e-5")
+        step = circuit_of("1e-6", "-1", xend="10", first_step="10", atol="1")
+        coarse = circuit_of("1", "-1", xend="3", first_step="3", rtol="1e5")
+        for text in (supply, faint, small, latch, step, coarse):
             self.assertTrue(self.first_line(text)[1].startswith("Success, NOT SETTLED: "), text)
         self.assertIn("this circuit can grow by 2.6e+21", self.first_line(latch)[1])
-        balanced = FIRST.replace("n 1", "n 3").replace("y0 1", "y0 1 1 0").replace("  0\n", "  -1.1 0.1 0\n  0.1 -1.1 0\n  3 -3 -7\n").replace("rtol 1e-3", "rtol 1e-6")
+        balanced = circuit_of("1 1 0", "-1.1 0.1 0", "0.1 -1.1 0", "3 -3 -7", rtol="1e-6")
         self.assertTrue(self.first_line(balanced)[1].startswith("Success, and settled: "))
 
 
