@@ -9,7 +9,7 @@ import unittest
 sys.dont_write_bytecode = True
 sys.path.insert(0, os.path.join(os.path.dirname(os.path.abspath(__file__)), "..", ".."))
 
-from desk import picture, words
+from desk import picture
 from desk.tests.drawn import Drawn, Picture, box, curve, even, of
 
 NAN, INF = math.nan, math.inf

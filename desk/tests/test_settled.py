@@ -10,7 +10,7 @@ from unittest import mock
 sys.dont_write_bytecode = True
 sys.path[:0] = [str(Path(__file__).resolve().parents[2])]
 
-from desk import causes, circuit, curve, outcome, program, running, settled, verdict
+from desk import circuit, curve, outcome, program, running, settled, verdict
 from desk.packed import bits_of, value
 from samples import EXAMPLES, FIRST, Desk, ring, wants_the_program
 
