@@ -105,7 +105,7 @@ class PythonEnds(Clean):
         return user, solver
 
     def gone(self, pid):
-        until = time.monotonic() + 5
+        until = time.monotonic() + 20
         while alive(pid) and time.monotonic() < until:
             time.sleep(0.01)
         self.assertFalse(alive(pid))
@@ -126,7 +126,7 @@ class PythonEnds(Clean):
             user, solver = self.started(slowly)
             time.sleep(0.2)
             user.send_signal(signal.SIGINT)
-            said = user.communicate(timeout=10)[1].decode()
+            said = user.communicate(timeout=30)[1].decode()
             self.assertTrue(said.rstrip().endswith("KeyboardInterrupt"), said)
             self.gone(solver)
 
@@ -134,7 +134,7 @@ class PythonEnds(Clean):
         """A Solver that nobody closed ends with Python, without a word."""
         code = f"import sys; sys.dont_write_bytecode = True; sys.path[:0] = [{str(HERE)!r}]\nfrom cuzzimbra import Solver\n"
         code += "s = Solver()\nprint(s.solve(lambda x, y: [-y[0]], (0, 1), [1]).status, s.process.pid)"
-        done = subprocess.run([sys.executable, "-c", code], stdout=subprocess.PIPE, stderr=subprocess.PIPE, timeout=20)
+        done = subprocess.run([sys.executable, "-c", code], stdout=subprocess.PIPE, stderr=subprocess.PIPE, timeout=60)
         status, pid = done.stdout.decode().split()
         self.assertEqual((status, done.stderr), ("Success", b""))
         self.gone(int(pid))

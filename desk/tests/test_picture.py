@@ -189,7 +189,7 @@ class Envelopes(Picture):
         run = curve(xs, *[of(lambda x: (i + 1) * math.sin(2 * math.pi * 440 * x + i), xs) for i in range(4)])
         start = time.process_time()
         drawn = Drawn(run)
-        self.assertLess(time.process_time() - start, 3)
+        self.assertLess(time.process_time() - start, 8)
         self.assertLess(len(drawn.svg), 400000)
 
     def test_a_band_of_no_width_is_still_seen(self):
