@@ -50,7 +50,8 @@ def packed(tolerance):
     return struct.pack(f">Q{len(tolerance)}d", len(tolerance), *tolerance)
 
 
-def scales(rtols, atols, n):
-    """For the differences: below which size each component counts for nothing, as its tolerances say."""
-    rtols, atols = ([each] * n if isinstance(each, float) else each for each in (rtols, atols))
-    return [a / r if r > 0 else 1.0 for r, a in zip(rtols, atols)]
+def scales(rtols, atols, y0):
+    """For the differences: below which size each component counts for nothing, as its tolerances say; at most what the run begins with, or 1."""
+    rtols, atols = ([each] * len(y0) if isinstance(each, float) else each for each in (rtols, atols))
+    most = max([1.0, *map(abs, y0)])
+    return [min(a / r, most) if r > 0 else 1.0 for r, a in zip(rtols, atols)]

@@ -98,6 +98,8 @@ def make_references(problems):
     for problem in problems:
         rtol = 1e-8 if problem is RING_MODULATOR else FINEST  # which would take an hour there
         run = solve_ivp(problem.fun, problem.span, problem.y0, method="Radau", jac=problem.jac, rtol=rtol, atol=problem.atol(rtol))
+        if not run.success:
+            raise SystemExit(f"{problem.name}: Radau did not reach its end: {run.message}")
         words = f"SciPy {scipy.__version__}, solve_ivp, method Radau, the Jacobian of problems.py, rtol {rtol:g}, atol rtol times `sizes`"
         end = known["ends"][problem.name] = run.y[:, -1].tolist()
         how = known["how"][problem.name] = f"{words}: {run.message} {len(run.t) - 1} steps"
@@ -131,6 +133,8 @@ def main(words):
     elif "cost" in words:
         cost()
     elif "--write" in words:
+        if scipy is None or "--quick" in words:
+            raise SystemExit("the page is saved whole: with SciPy, and without --quick")
         PAGE.write_text(page(problems), encoding="utf-8")
     else:
         print(page(problems), end="")

@@ -53,6 +53,8 @@ class Unfinished(RuntimeError):
             return "; the steps were used up: raise max_steps"
         if self.status == "StepSizeTooSmall" and self.x == self.xend:
             return "; x0 is xend, and there is no step to take"
+        if self.x == self.xend:
+            return "; it was stopped there"
         short = abs(self.xend - self.x) <= HAIR * max(abs(self.x), abs(self.xend)) * sys.float_info.epsilon
         if self.status == "StepSizeTooSmall" and short:
             return "; rounding stopped it a hair short: move xend a little, or give another first_step"
@@ -88,7 +90,9 @@ class Step:
         self.start, self.x, self.h, self.n, self.packed = start, x, h, n, packed
 
     def at(self, x):
-        """The state at x, to the bit what the proved interpolation gives: the same operations in the same order."""
+        """The state at x within the step, to the bit what the proved interpolation gives: the same operations in the same order."""
+        if not min(self.start, self.x) <= x <= max(self.start, self.x):
+            raise ValueError(f"x = {x!r} is not within the step from {self.start!r} to {self.x!r}")
         return interpolate(x, struct.unpack(f">{7 * self.n}d", self.packed), self.start, self.h)
 
 
@@ -162,7 +166,8 @@ class Asked:
 
     def __init__(self, fun, jac, notice, n, scales):
         self.fun, self.notice, self.n, self.scales = fun, notice, n, scales
-        self.jac = jac if jac is None or callable(jac) else lambda x, y: jac
+        constant = None if jac is None or callable(jac) else [numbers(row, "jac", None) for row in gone_through(jac)]
+        self.jac = jac if constant is None else lambda x, y: constant
         self.calls = self.differences = 0
         self.refused = None
         self.last = None  # the last derivative that was asked: x, y, and what it was
@@ -172,20 +177,20 @@ class Asked:
         self.last = (x, y, found)
         return found
 
-    def slope(self, x, y):
-        """fun at a point. It gets a list of its own, so that it may change it."""
+    def slope(self, x, y, moved=""):
+        """fun at a point. It gets a list of its own, so that it may change it. `moved` says where the point is one of the differences'."""
         self.calls += 1
         found = numbers(self.fun(x, list(y)), "fun", x)
         if len(found) != self.n:
-            raise ValueError(f"fun gave {len(found)} numbers at x = {x!r}, and {self.n} were wanted")
-        finite(found, lambda i: f"fun gave {found[i]!r} for component {i} at x = {x!r}")
+            raise ValueError(f"fun gave {len(found)} numbers at x = {x!r}{moved}, and {self.n} were wanted")
+        finite(found, lambda i: f"fun gave {found[i]!r} for component {i} at x = {x!r}{moved}")
         return found
 
     def jacobian(self, x, y):
         """The Jacobian by rows, as one list."""
         if self.jac is None:
             return self.by_differences(x, y)
-        rows = [numbers(row, "jac", x) for row in self.jac(x, list(y))]
+        rows = [numbers(row, "jac", x) for row in gone_through(self.jac(x, list(y)))]
         if len(rows) != self.n or any(len(row) != self.n for row in rows):
             lengths = sorted({len(row) for row in rows})
             words = f"jac gave {len(rows)} rows of {' or '.join(map(str, lengths)) or 'no'} numbers at x = {x!r}"
@@ -202,9 +207,10 @@ class Asked:
         for j, scale in enumerate(self.scales):
             moved = list(y)
             size = max(abs(y[j]), scale)
-            moved[j] += HALF_DIGITS * (size if size > TINY else 1.0)
+            moved[j] += math.copysign(HALF_DIGITS * (size if size > TINY else 1.0), base[j])  # the way that the run goes
             width = moved[j] - y[j]  # what the addition made of it
-            columns.append([(new - old) / width for new, old in zip(self.slope(x, moved), base)])
+            slopes = self.slope(x, moved, f", moved in component {j} for the Jacobian")
+            columns.append([(new - old) / width for new, old in zip(slopes, base)])
         self.differences += self.calls - before
         found = list(itertools.chain(*zip(*columns)))
         finite(found, lambda i: f"the differences gave {found[i]!r} in row {i // self.n}, column {i % self.n} at x = {x!r}")
@@ -218,11 +224,18 @@ class Asked:
 
 def numbers(values, who, x):
     """Whatever can be gone through, as floats; a number alone is a sequence of one."""
-    items = list(values) if hasattr(values, "__iter__") and getattr(values, "ndim", 1) else [values]
+    alone = not hasattr(values, "__iter__") or not getattr(values, "ndim", 1)
     try:
-        return [float(item) for item in items]
-    except TypeError:
+        return [float(item) for item in ([values] if alone else values)]
+    except (TypeError, ValueError, OverflowError):
         raise ValueError(f"{who} gave {values!r} at x = {x!r}: that is no row of numbers") from None
+
+
+def gone_through(rows):
+    """A matrix by its rows; a number alone is one of one row."""
+    if hasattr(rows, "__iter__") and getattr(rows, "ndim", 1):
+        return rows
+    return [[rows]]
 
 
 def finite(found, words):
@@ -235,9 +248,9 @@ def solve(fun, span, y0, jac=None, rtol=1e-3, atol=1e-6, max_steps=100_000, firs
     """Solves y' = fun(x, y) from span[0] to span[1], beginning with y0, in the manner of SciPy's `solve_ivp`. Gives a Result.
 
     fun(x, y): the n derivatives, anything that can be gone through; y is a list of n floats. n is at most 32.
-    jac(x, y): the Jacobian, n rows of n numbers; or such a matrix, where it is constant; or None. With None it is had by forward differences,
+    jac(x, y): the Jacobian, n rows of n numbers; or such a matrix, where it is constant; or None. With None it is had by differences,
         which cost n more calls of fun for each Jacobian, and one more where the point is not the last that was asked: `counters` has them
-        as `differences`. Their steps are sqrt(eps) * max(|y|, atol / rtol), and sqrt(eps) where that says nothing.
+        as `differences`. Their steps are sqrt(eps) * max(|y|, atol / rtol), the latter at most the largest of 1 and |y0|, and go the way of fun.
     rtol, atol: a number, or n numbers.  max_steps: attempts after which it gives up, at most 1,000,000.
     first_step: its size; None finds one.  max_step: the largest; None for the whole span.  newton_maxiter: at most 64.
     notice(x, y, step): is called at the start, with step None, and after each accepted step, with its Step; if it returns True, the run stops
@@ -254,7 +267,7 @@ def solve(fun, span, y0, jac=None, rtol=1e-3, atol=1e-6, max_steps=100_000, firs
     if n > MOST:
         raise Refused(1)  # so many the program would not even read
     case = begun((x0, xend), y0, (rtols, atols), (max_steps, newton_maxiter), (max_step, first_step), guarded)
-    asked = Asked(fun, jac, notice, n, scales(rtols, atols, n))
+    asked = Asked(fun, jac, notice, n, scales(rtols, atols, y0))
     with contextlib.nullcontext(solver) if solver else Solver() as used:
         return used.converse(case, asked, Result(x0, y0, xend))
 

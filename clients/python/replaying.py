@@ -7,6 +7,7 @@ import shlex
 import struct
 import subprocess
 import time
+import weakref
 from pathlib import Path
 
 HOME = Path(__file__).resolve().parents[2]
@@ -23,17 +24,28 @@ def command(program=None):
     """The program as a command: what is given, what the environment's CUZZIMBRA_REPLAY names, or the one that is built."""
     given = program or os.environ.get("CUZZIMBRA_REPLAY")
     if given:
-        return [str(given)] if os.path.exists(given) else shlex.split(str(given))
+        return [str(given)] if os.path.exists(given) else words_of(str(given))
     if not os.access(BUILT, os.X_OK):
         raise Broken("the solver is not built: run ./cuzzimbra run once, which proves and builds it")
     return [str(BUILT)]
 
 
+def words_of(given):
+    with contextlib.suppress(ValueError):
+        if given.split():
+            return shlex.split(given)
+    raise Broken(f"{given!r} is no command")
+
+
+ALL = weakref.WeakSet()  # every Process there is
+
+
 class Process:
-    """Starts with the first word that is sent to it."""
+    """Starts with the first word that is sent to it. It belongs to the Python that started it: one that is forked from that has none of it."""
 
     def __init__(self, program=None):
         self.words, self.process = command(program), None
+        ALL.add(self)
 
     @property
     def pid(self):
@@ -64,13 +76,19 @@ class Process:
 
     def send(self, data):
         try:
-            self.process.stdin.write(data)
-            self.process.stdin.flush()
+            stdin = self.there().stdin
+            stdin.write(data)
+            stdin.flush()
         except OSError:
             raise self.ended() from None
 
+    def there(self):
+        if self.process is None:
+            raise Broken("the solver was closed during its run")
+        return self.process
+
     def line(self):
-        found = self.process.stdout.readline()
+        found = self.there().stdout.readline()
         if not found.endswith(b"\n"):
             raise self.ended()
         return found
@@ -78,10 +96,10 @@ class Process:
     def ended(self):
         """The error that says how the process ended by itself: where it was only on its way, it has a second."""
         with contextlib.suppress(subprocess.TimeoutExpired):
-            status = self.process.wait(1)
+            status = self.there().wait(1)
             how = f"it was killed by signal {-status}" if status < 0 else f"its exit status is {status}"
             return Broken(f"the solver ended before its run: {how}")
-        return Broken("the solver ended before its run: it closed its output")
+        return Broken("the solver ended before its run: it closed its input or output")
 
     def close(self):
         """Ends the process. Nothing is lost by it: whatever it told was read."""
@@ -93,6 +111,24 @@ class Process:
                     stream.close()
             process.wait()
 
+    def forget(self):
+        """In a Python that was forked: the pipe is the other's, and so is the process."""
+        process, self.process = self.process, None
+        for stream in (process.stdin, process.stdout) if process else ():
+            with contextlib.suppress(OSError):
+                stream.close()
+        if process:
+            process.returncode = 0  # nothing here is to wait for it
+
     def __del__(self):
         if getattr(self, "process", None):
             self.close()
+
+
+def forget_all():
+    for one in list(ALL):
+        one.forget()
+
+
+if hasattr(os, "register_at_fork"):
+    os.register_at_fork(after_in_child=forget_all)

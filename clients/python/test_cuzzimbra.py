@@ -289,7 +289,7 @@ class Mistakes(Clean):
         self.says(NotFinite, ("fun gave nan", "component 1", "x = 3.0"), fun=lambda x, y: [0.0, math.nan])
         self.says(NotFinite, ("fun gave -inf", "component 0"), fun=lambda x, y: [-math.inf if x > 3.5 else 1.0, 0.0])
         self.says(NotFinite, ("jac gave inf", "row 1, column 0", "x = 3.0"), jac=[[0.0, 0.0], [math.inf, 0.0]])
-        self.says(NotFinite, ("the differences gave", "row 0, column 0"), fun=lambda x, y: [1e308 if y[0] > 1 else -1e308, 0.0])
+        self.says(NotFinite, ("the differences gave", "row 0, column 0"), fun=lambda x, y: [1e308 if y[0] < 1 else -1e308, 0.0])
 
     def test_any_sequence(self):
         run = solve(decay, (0, 1), [1, 2])

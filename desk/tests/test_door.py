@@ -54,6 +54,13 @@ class Asking(Desk):
         done = subprocess.run([str(ROOT / "cuzzimbra"), "check", "examples/diode-ladder.txt"], cwd=ROOT, stdout=subprocess.PIPE, text=True)
         self.assertEqual((done.returncode, done.stdout), (0, "examples/diode-ladder.txt: 4 components, x from 0.0 to 0.02: it can be run\n"))
 
+    def test_what_the_first_command_builds(self):
+        """The desk's program, and the one that the Python client talks to."""
+        self.assertEqual(next(program.steps())[:2], ["rt", "check"])
+        self.assertEqual(set(next(program.steps())[2:]), {"run_job", "replay"})
+        first = next(line for line in (ROOT / "README.md").read_text().split("\n") if line.startswith("    "))
+        self.assertTrue(first.startswith("    ./cuzzimbra run "))
+
     def test_examples_are_circuits_alone(self):
         kinds = {path.suffix for path in EXAMPLES.iterdir() if path.name != "README.md"}
         self.assertLessEqual(kinds, {".txt", ".py", ".svg", ".csv"})  # the last two are made by running the others, and not kept
