@@ -33,7 +33,7 @@ FINEST = 1e-12  # of Radau; SciPy takes nothing finer than 2.3e-14
 MOST_STEPS = 1_000_000
 HEAD = """# Published problems
 
-Made by `clients/python/compare.py --write`, and not by hand. The problems are of Hairer and Wanner, Solving Ordinary Differential Equations II,
+Made by `clients/python/compare.py`, the ring modulator's finest row by a run of its own. The problems are of Hairer and Wanner, Solving Ordinary Differential Equations II,
 and of the Test Set for IVP Solvers; their equations and constants stand in `clients/python/problems.py`. Each is run by the Python client, and by
 SciPy's BDF ({scipy}) at the same tolerances with the same Jacobian.
 
