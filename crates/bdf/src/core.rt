@@ -10,7 +10,7 @@ use rules::types::{
     Aim, Answer, Awaited, Evals, Limits, Newton, Pace, Progress, Run, Span, Status, Steps, Turn,
 };
 
-#[derive(Drop)]
+#[derive(Clone, Copy)]
 pub(crate) struct Core {
     pub n: usize,
     pub limits: Limits,
@@ -27,7 +27,7 @@ pub(crate) struct Core {
 
 // What a stage came to: rejected, so that an attempt is tried from the state `at`; or an answer, and the place that awaits its reply.
 // Of a rejected one neither is read. They are a question and its place, so that nothing could ever take it for an end.
-#[derive(Drop)]
+#[derive(Clone, Copy)]
 pub(crate) struct Outcome {
     pub again: bool,
     pub answer: Answer,
@@ -36,7 +36,7 @@ pub(crate) struct Outcome {
 }
 
 // What a reply came to: a step is done with, so that what follows one comes next, or an outcome.
-#[derive(Drop)]
+#[derive(Clone, Copy)]
 pub(crate) struct Next {
     pub steps: bool,
     pub outcome: Outcome,

@@ -1,4 +1,6 @@
 // The BDF solver: variable order 1 to 5, fixed-leading-coefficient steps, simplified Newton, by questions and replies.
+#![tactic(auto)]
+
 mod aim;
 mod attempt;
 mod beginning;

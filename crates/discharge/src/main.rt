@@ -1,5 +1,7 @@
 // Two capacitors discharge through resistors: prints the voltage of the second, half way and at the end. docs/USING.md goes through it.
 // Where the end was not reached no value is printed but the word for it: a program of this language has no exit status to say so.
+#![tactic(auto)]
+
 mod decimal;
 mod run;
 

@@ -13,7 +13,7 @@ use bdf::{begin, go_on};
 use interpolation::{Interpolation, interpolate};
 
 // What the run came to. Values are there only where the end was reached: an unfinished run has none to be mistaken for them.
-#[derive(Drop)]
+#[derive(Clone, Copy)]
 pub enum Outcome {
     Reached { middle: f64, end: f64 },
     Unfinished,
@@ -21,13 +21,13 @@ pub enum Outcome {
 }
 
 // What the notices have told of V2 so far: at HALF_WAY, and where the last step ended.
-#[derive(Drop)]
+#[derive(Clone, Copy)]
 struct Seen {
     middle: Middle,
     last: f64,
 }
 
-#[derive(Drop)]
+#[derive(Clone, Copy)]
 enum Middle {
     Ahead,
     Passed(f64),

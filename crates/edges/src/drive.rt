@@ -11,7 +11,7 @@ use std::num;
 use text::Place;
 
 // The rates are rate, 2 rate, 3 rate, .., and the Jacobian that is handed in is slope times the true one.
-#[derive(Drop)]
+#[derive(Clone, Copy)]
 pub(crate) struct Case {
     pub n: usize,
     pub rate: f64,
@@ -285,7 +285,7 @@ fn tried(
 }
 
 // What a call that must be refused came to: its number, how many of the two lent slices changed, and the state handed back.
-#[derive(Drop)]
+#[derive(Clone, Copy)]
 struct Outcome {
     number: u64,
     changed: u64,
@@ -305,7 +305,7 @@ fn refused(run: Run, reply: Reply, ws: &mut [f64], q: &mut [f64]) -> Outcome {
 }
 
 // The checksums of the two lent slices.
-#[derive(Drop)]
+#[derive(Clone, Copy)]
 struct Sums {
     room: u64,
     questions: u64,

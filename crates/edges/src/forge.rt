@@ -8,7 +8,7 @@ use rules::types::{Awaited, Newton, Progress, Run};
 use std::num;
 
 // What is forged; from `Accepted` on T, A and m are those of docs/RULES.md. Those from AcceptedMax on have only one of the two sides.
-#[derive(Drop)]
+#[derive(Clone, Copy)]
 pub(crate) enum Forgery {
     Size,
     NoSize,

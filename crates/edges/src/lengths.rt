@@ -9,7 +9,7 @@ use rules::types::{Answer, Reply, Run, Tolerance, Turn};
 use text::Place;
 
 // How many numbers a beginning is lent: components, workspace, question slice, relative and absolute tolerances.
-#[derive(Drop)]
+#[derive(Clone, Copy)]
 struct Slices {
     n: usize,
     room: usize,
@@ -19,7 +19,7 @@ struct Slices {
 }
 
 // What a run said, and where the next line goes.
-#[derive(Drop)]
+#[derive(Clone, Copy)]
 struct Said {
     turn: Turn,
     place: Place,

@@ -1,5 +1,7 @@
 // Runs the edges that no transcript tells: how long the lent slices must be, and which states handed back are damaged.
 // Lines of text on standard output; there is no input.
+#![tactic(auto)]
+
 mod drive;
 mod fields;
 mod forge;

@@ -1,1 +1,2 @@
 // No code: what holds of rounded operations on doubles, in whole numbers of units. See specs/.
+#![tactic(auto)]

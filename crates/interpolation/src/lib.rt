@@ -1,4 +1,6 @@
 // The polynomial of an accepted step, which a caller evaluates between two notices.
+#![tactic(auto)]
+
 mod polynomial;
 
 pub use polynomial::{Interpolation, interpolate};

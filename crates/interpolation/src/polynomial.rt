@@ -7,7 +7,7 @@ ghost use Rattle.interpolation.specs.Interpolate.{order_of, x_factor, product_at
 use matrix::MAX_N;
 
 // What `interpolate` answers: refusal 1 is TooMany, refusal 13 is WrongLength.
-#[derive(Drop)]
+#[derive(Clone, Copy)]
 pub enum Interpolation {
     Interpolated,
     TooMany,

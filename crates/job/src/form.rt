@@ -16,7 +16,7 @@ pub(crate) const NO_JOB: u64 = 17;
 pub(crate) const TOO_MANY_COMPONENTS: u64 = 1;
 
 // What a job has beside y0 and A, each double by its bits. It can say what no job says: an automatic start with a first_step beside it.
-#[derive(Drop)]
+#[derive(Clone, Copy)]
 pub struct Form {
     pub n: usize,
     pub max_steps: usize,
@@ -30,7 +30,7 @@ pub struct Form {
     pub atol: u64,
 }
 
-#[derive(Drop)]
+#[derive(Clone, Copy)]
 pub enum FormReading {
     Read(Form),
     // The number of the refusal: 1 or 17.

@@ -1,4 +1,6 @@
 // A job file: y' = A y with its beginning, packed. Reading one, writing one, and its right side.
+#![tactic(auto)]
+
 mod form;
 mod packed;
 mod reader;

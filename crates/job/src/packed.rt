@@ -28,7 +28,7 @@ pub(crate) fn length_for(n: usize) -> usize
 }
 
 // The head's fields, in their order. `padding` is what stands behind them.
-#[derive(Drop)]
+#[derive(Clone, Copy)]
 pub(crate) struct Head {
     pub n: usize,
     pub max_steps: usize,

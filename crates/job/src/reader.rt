@@ -10,7 +10,7 @@ use rules::settings::BDF;
 use rules::types::Setting;
 
 // What a job file holds beside y0 and A, which go to lent arrays.
-#[derive(Drop)]
+#[derive(Clone, Copy)]
 pub struct Job {
     pub n: usize,
     pub max_steps: usize,
@@ -23,7 +23,7 @@ pub struct Job {
     pub atol: f64,
 }
 
-#[derive(Drop)]
+#[derive(Clone, Copy)]
 pub enum Reading {
     Read(Job),
     // The number of the refusal: 1 or 17.

@@ -25,7 +25,7 @@ const ZERO_FIRST_STEP: u64 = 8;
 // Refusal 25: the slice is shorter than the job.
 const SLICE_SHORT: u64 = 25;
 
-#[derive(Drop)]
+#[derive(Clone, Copy)]
 pub enum Writing {
     // So many bytes.
     Written(usize),

@@ -1,4 +1,6 @@
 // The lines that a job's run prints, and the numbers that stand in them.
+#![tactic(auto)]
+
 mod fields;
 mod lines;
 mod numbers;

@@ -1,4 +1,6 @@
 // A job's listing: every line that the job program prints for a file, given page by page.
+#![tactic(auto)]
+
 mod answer;
 mod opening;
 mod pages;

@@ -19,7 +19,7 @@ pub const WORKSPACE: usize = 2 * CELLS + 33 * MAX_N;
 pub const QUESTION: usize = 8 * MAX_N;
 
 // What was said last, whose line is due.
-#[derive(Drop)]
+#[derive(Clone, Copy)]
 pub enum Said {
     // By the solver. A question has no line.
     Told(Answer),
@@ -30,7 +30,7 @@ pub enum Said {
 }
 
 // Where a listing has come to: it goes into every call by value and comes back.
-#[derive(Drop)]
+#[derive(Clone, Copy)]
 pub struct Listing {
     pub said: Said,
     pub run: Run,

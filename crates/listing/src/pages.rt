@@ -17,21 +17,21 @@ use job::CELLS;
 use text::Place;
 
 // A page that was given: its text stands in the first `length` bytes of what was lent for it.
-#[derive(Drop)]
+#[derive(Clone, Copy)]
 pub struct Page {
     pub listing: Listing,
     pub length: usize,
 }
 
 // A page under way: what the run said last, how much is written, and why it stops.
-#[derive(Drop)]
+#[derive(Clone, Copy)]
 struct Sheet {
     turn: Turn,
     length: usize,
     stop: Stop,
 }
 
-#[derive(Drop)]
+#[derive(Clone, Copy)]
 enum Stop {
     Not,
     NoRoom,

@@ -1,5 +1,7 @@
 // Dense linear algebra for small square matrices, stored by rows: LU decomposition with partial pivoting (`lu`), and
 // solving with the factors (`linear`). Beside matrix/lu.rs and matrix/linear.rs of the Rust.
+#![tactic(auto)]
+
 mod cell;
 pub mod linear;
 pub mod lu;

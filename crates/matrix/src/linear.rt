@@ -8,7 +8,7 @@ ghost use Rattle.matrix.specs.Linear.{solution_of, inside_of, Inside, swapped, l
 use crate::cell::{get, sized};
 
 // What `lin_solve` answers. A refusal changes nothing.
-#[derive(Drop)]
+#[derive(Clone, Copy)]
 pub enum Solution {
     // b holds the solution.
     Solved,

@@ -9,7 +9,7 @@ ghost use Rattle.matrix.specs.Rows.{added_of, cell_turn, row_turn, Zeros};
 use crate::cell::{get, put, sized};
 
 // What `lu_decomp` answers.
-#[derive(Drop)]
+#[derive(Clone, Copy)]
 pub enum Factoring {
     // a holds the factors, ip the pivots.
     Factored,

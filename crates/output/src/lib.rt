@@ -2,6 +2,8 @@
 // Afterwards the page is begun anew. A place that is Full says that a write failed: from then on nothing is written.
 //
 // Nothing can be said here of what is written: no contract reaches beyond the program. What is said is which place comes back.
+#![tactic(auto)]
+
 ghost use Rattle.std.specs.Prelude.{length};
 ghost use Rattle.output.specs.Output.{Flushed, MadeRoomy};
 

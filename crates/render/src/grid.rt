@@ -4,7 +4,7 @@ ghost use Rattle.render.specs.Sampled.{fresh_grid};
 
 // The place on the grid: the next k to write, whether a notice has come, and the two x and the h of the last one. It is `open` while
 // some k of that notice is due.
-#[derive(Drop)]
+#[derive(Clone, Copy)]
 pub struct Grid {
     pub next: u64,
     pub begun: bool,
@@ -31,7 +31,7 @@ impl Grid {
 }
 
 // A step notice: its true start, its new x and its signed step.
-#[derive(Drop)]
+#[derive(Clone, Copy)]
 pub struct Notice {
     pub start: f64,
     pub new: f64,
@@ -39,7 +39,7 @@ pub struct Notice {
 }
 
 // What `sample` answers. Refusal 1 is TooMany, 13 WrongLength, 18 OutOfTurn, 19 OutOfRange.
-#[derive(Drop)]
+#[derive(Clone, Copy)]
 pub enum Rendering {
     // So many samples were written, the first of them for the k `from`; `done` where no k of the notice is left.
     Sampled { from: u64, count: usize, done: bool },

@@ -1,4 +1,6 @@
 // The renderer: the components of a forward run at the times k / 48000, from its step notices.
+#![tactic(auto)]
+
 mod grid;
 mod placing;
 mod rows;

@@ -11,7 +11,7 @@ use crate::times::{first_from, first_past};
 use matrix::MAX_N;
 
 // The place moved on, and what is answered.
-#[derive(Drop)]
+#[derive(Clone, Copy)]
 pub(crate) struct Placed {
     pub grid: Grid,
     pub said: Rendering,

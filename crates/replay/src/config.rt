@@ -9,7 +9,7 @@ const SCALAR: u64 = u64::MAX;
 
 const MOST: u64 = 64;
 
-#[derive(Drop)]
+#[derive(Clone, Copy)]
 pub(crate) struct Config {
     pub settings: BDF,
     pub x0: f64,
@@ -20,7 +20,7 @@ pub(crate) struct Config {
 }
 
 // A tolerance, how many entries it has beside it, and where the words go on.
-#[derive(Drop)]
+#[derive(Clone, Copy)]
 pub(crate) struct Allowed {
     pub tolerance: Tolerance,
     pub entries: usize,

@@ -1,6 +1,8 @@
 // Replays recorded cases: 64-bit words on standard input, each most significant byte first, and a line of text for each
 // answer on standard output. A stream that is no row of cases ends in the line `X`. When all words that came are used up, what it has
 // said is written out before it waits: so the words can come from a process that reads each answer before it replies.
+#![tactic(auto)]
+
 mod answer;
 mod config;
 mod dense;

@@ -6,7 +6,7 @@ use crate::source;
 use crate::source::{Source, Taken};
 
 // A reply, how many values stand beside it, and where the words go on.
-#[derive(Drop)]
+#[derive(Clone, Copy)]
 pub(crate) struct Replied {
     pub reply: Reply,
     pub count: usize,

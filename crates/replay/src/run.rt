@@ -11,7 +11,7 @@ use text::Place;
 const MOST: u64 = 64;
 
 // Where a replay stands after a turn, and what the run said in it.
-#[derive(Drop)]
+#[derive(Clone, Copy)]
 struct Said {
     state: State,
     turn: Turn,

@@ -8,14 +8,14 @@ use text::Word;
 
 // Where the next word stands, and where what was read ends. `fit` is false once a word was missing, or was no kind or
 // too large for a count: from then on every word is 0, so that a case is read to its end before anyone asks.
-#[derive(Drop)]
+#[derive(Clone, Copy)]
 pub(crate) struct Source {
     pub at: usize,
     pub end: usize,
     pub fit: bool,
 }
 
-#[derive(Drop)]
+#[derive(Clone, Copy)]
 pub(crate) struct Taken {
     pub word: u64,
     pub source: Source,

@@ -4,7 +4,7 @@ use crate::source;
 use crate::source::Source;
 use text::Place;
 
-#[derive(Drop)]
+#[derive(Clone, Copy)]
 pub(crate) struct State {
     pub source: Source,
     pub place: Place,

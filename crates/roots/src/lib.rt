@@ -1,4 +1,6 @@
 // The square root and the inverse k-th root of a double, to the bit.
+#![tactic(auto)]
+
 mod inverse;
 mod power;
 mod root_curve;
@@ -13,7 +15,7 @@ mod whole_root;
 pub use inverse::inverse_root;
 pub use square_root::sqrt;
 
-#[derive(Drop)]
+#[derive(Clone, Copy)]
 pub enum Root {
     Value(f64),
     KOutside,

@@ -3,7 +3,7 @@
 ghost use Rattle.std.specs.Prelude.{◌≤◌, ◌<◌};
 
 // a, b, c, d of a m^3 + b m^2 + c m + d, the Chebyshev fit to m^(-1/k) for m from 1 to 2: good to 9 bits at k = 1 and to 13 at k = 7.
-#[derive(Drop)]
+#[derive(Clone, Copy)]
 pub(crate) struct Curve(pub f64, pub f64, pub f64, pub f64);
 
 pub(crate) fn curve_of(k: usize) -> Curve {

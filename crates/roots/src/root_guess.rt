@@ -85,7 +85,7 @@ fn two_to(s: u64) -> f64
 }
 
 // An exponent as a multiple of k and what it is less: 1074 - height = k * (places - 2100) - rest. The 2100 keep places above 0.
-#[derive(Drop)]
+#[derive(Clone, Copy)]
 struct Exponent {
     places: u64,
     rest: u64,

@@ -54,7 +54,7 @@ fn limit(k: u64, q: u64, g: u64) -> u64
 }
 
 // Where the limit p lies: above the tested middle and below the next one, or below it and above the one before.
-#[derive(Drop)]
+#[derive(Clone, Copy)]
 enum Place {
     Above,
     Below,
@@ -77,7 +77,7 @@ fn place_of(h: u64, p: u64, slack: u64, reach: u64) -> Place
     if p < h { Place::Below } else { Place::Above }
 }
 
-#[derive(Drop)]
+#[derive(Clone, Copy)]
 pub(crate) enum Settled {
     At(u64),
     Unsure,

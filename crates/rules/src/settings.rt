@@ -4,7 +4,7 @@ ghost use Rattle.rules.specs.Settings.{defaults};
 
 use crate::types::Setting;
 
-#[derive(Drop)]
+#[derive(Clone, Copy)]
 pub struct BDF {
     pub max_steps: usize,
     pub max_step: Setting,

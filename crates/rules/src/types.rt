@@ -6,20 +6,20 @@ ghost use Rattle.rules.specs.Counters.{no_evals, no_steps};
 use matrix::MAX_N;
 
 // A setting that the Rust holds as an Option<Float>.
-#[derive(Drop)]
+#[derive(Clone, Copy)]
 pub enum Setting {
     Unset,
     Given(f64),
 }
 
 // One number for every component, or one each in a slice that is lent beside it.
-#[derive(Drop)]
+#[derive(Clone, Copy)]
 pub enum Tolerance {
     Scalar(f64),
     Vector,
 }
 
-#[derive(Drop)]
+#[derive(Clone, Copy)]
 pub enum Status {
     Success,
     UserInterrupt,
@@ -55,14 +55,14 @@ impl Status {
 }
 
 // Which of the two tolerances is negative.
-#[derive(Drop)]
+#[derive(Clone, Copy)]
 pub enum Kind {
     Relative,
     Absolute,
 }
 
 // Why a call did nothing, in the order of checking. specs/ gives each case its number.
-#[derive(Drop)]
+#[derive(Clone, Copy)]
 pub enum Refusal {
     TooManyComponents,
     WorkspaceShort,
@@ -86,7 +86,7 @@ pub enum Refusal {
 }
 
 // What the caller says to the last answer; values stand in a slice that is lent beside it.
-#[derive(Drop)]
+#[derive(Clone, Copy)]
 pub enum Reply {
     Values,
     Continue,
@@ -95,7 +95,7 @@ pub enum Reply {
 }
 
 // What a run says: a question, a notice, its end, or a refusal.
-#[derive(Drop)]
+#[derive(Clone, Copy)]
 pub enum Answer {
     Derivative(f64),
     Jacobian(f64),
@@ -114,7 +114,7 @@ pub enum Answer {
 }
 
 // The place in `solve` at which the run waits for a reply.
-#[derive(Drop)]
+#[derive(Clone, Copy)]
 pub enum Awaited {
     FirstDerivative,
     FirstJacobian,
@@ -133,7 +133,7 @@ pub enum Awaited {
 
 // What bounds the attempts: max_steps, the Newton limit with 0 already read as 1, and 1 where the run is guarded, otherwise 0 (a number
 // and no bool: it is copied with the others, and a bool would cost a run up to 6 in a hundred of its time).
-#[derive(Drop)]
+#[derive(Clone, Copy)]
 pub struct Limits {
     pub steps: usize,
     pub newton: usize,
@@ -141,7 +141,7 @@ pub struct Limits {
 }
 
 // What stays as the beginning computed it.
-#[derive(Drop)]
+#[derive(Clone, Copy)]
 pub struct Span {
     pub xend: f64,
     pub direction: f64,
@@ -152,7 +152,7 @@ pub struct Span {
 }
 
 // As in the Rust, and beside it `start`: 1 once the automatic start has asked its derivative, which `ode` does not count.
-#[derive(Drop)]
+#[derive(Clone, Copy)]
 pub struct Evals {
     pub ode: usize,
     pub jac: usize,
@@ -174,7 +174,7 @@ impl Evals {
     }
 }
 
-#[derive(Drop)]
+#[derive(Clone, Copy)]
 pub struct Steps {
     pub total: usize,
     pub accepted: usize,
@@ -195,7 +195,7 @@ impl Steps {
 }
 
 // current_h, n_equal_steps and lu_is_current of the Rust.
-#[derive(Drop)]
+#[derive(Clone, Copy)]
 pub struct Pace {
     pub h: f64,
     pub equal_steps: usize,
@@ -203,7 +203,7 @@ pub struct Pace {
 }
 
 // Where the attempt under way leads.
-#[derive(Drop)]
+#[derive(Clone, Copy)]
 pub struct Aim {
     pub h_signed: f64,
     pub x_start: f64,
@@ -212,7 +212,7 @@ pub struct Aim {
 }
 
 // The Newton iteration under way, and what its end left for the order's choice. `prev` counts once iters is above 0.
-#[derive(Drop)]
+#[derive(Clone, Copy)]
 pub struct Newton {
     pub iters: usize,
     pub prev: f64,
@@ -220,7 +220,7 @@ pub struct Newton {
     pub error_norm: f64,
 }
 
-#[derive(Drop)]
+#[derive(Clone, Copy)]
 pub struct Progress {
     pub n: usize,
     pub limits: Limits,
@@ -237,13 +237,13 @@ pub struct Progress {
 }
 
 // A run's state: it goes into every call by value and comes back.
-#[derive(Drop)]
+#[derive(Clone, Copy)]
 pub struct Run {
     pub awaited: Awaited,
     pub at: Progress,
 }
 
-#[derive(Drop)]
+#[derive(Clone, Copy)]
 pub struct Turn {
     pub answer: Answer,
     pub run: Run,

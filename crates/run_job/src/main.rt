@@ -1,5 +1,7 @@
 // The job program: reads a packed job from standard input and prints its listing, page by page. Where a read fails nothing is printed,
 // and where a write fails it stops; both are said on standard error, since a program of this language has no exit status.
+#![tactic(auto)]
+
 use job::CELLS;
 use libc::{STDERR_FILENO, STDIN_FILENO, STDOUT_FILENO};
 use listing::{Listing, QUESTION, Said, WORKSPACE};

@@ -1,5 +1,7 @@
 // Prints the unit coefficients that the solver reads, for the page docs/UNIT-COEFFICIENTS.md to be held against: for each order a line
 // for each row, `U`, the order, the row's number i, and the row's entries as their bits, j from 0 up to the order.
+#![tactic(auto)]
+
 ghost use Rattle.std.specs.Prelude.{◌≤◌};
 
 use libc::STDERR_FILENO;

@@ -1,5 +1,7 @@
 // Lines of text and words of bytes: what a program writes and reads that prints doubles by their bits.
 // Text goes into a lent slice, at a place that each call takes and gives back.
+#![tactic(auto)]
+
 mod page;
 mod pattern;
 mod word;

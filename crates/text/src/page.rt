@@ -7,7 +7,7 @@ ghost use Rattle.text.specs.Page.{puts, stands_of};
 
 use crate::bits;
 
-#[derive(Drop)]
+#[derive(Clone, Copy)]
 pub enum Place {
     At(usize),
     Full,

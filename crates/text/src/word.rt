@@ -6,7 +6,7 @@ ghost use Rattle.text.specs.Words.{word_at, word_from, bytes_of};
 use crate::page;
 use crate::page::Place;
 
-#[derive(Drop)]
+#[derive(Clone, Copy)]
 pub enum Word {
     Is(u64),
     Short,

@@ -1,5 +1,7 @@
 // The unit coefficients: what `compute_r` yields at factor 1.0, by which `change_d` multiplies the table of any other factor. One table
 // serves the orders 1 to 5: that of an order is its first order + 1 rows and columns. Entry (i, j), row i and column j, is at i * 6 + j.
+#![tactic(auto)]
+
 ghost use Rattle.std.specs.Prelude.{◌≡◌};
 ghost use Rattle.unit.specs.Unit.{unit_r};
 

@@ -8,6 +8,8 @@
 //
 // Each prints the line `W` with the number of bytes written, or `R` with the number of the refusal, and then the slice as it stands, whose
 // bytes were A5 before. A stream that is no row of cases, or has more than there is room for, ends in the line `X`.
+#![tactic(auto)]
+
 use job::{CELLS, Form, FormReading, Writing};
 use libc::{STDERR_FILENO, STDIN_FILENO, STDOUT_FILENO};
 use matrix::MAX_N;

@@ -11,8 +11,7 @@ use lib.Ieee.{Float, nan}
 use Rattle.loops.specs.laws.ChoiceLaws.{either}
 use Rattle.loops.specs.Cell.{cell, stored}
 use Rattle.matrix.specs.Lu.{exchanged_of}
-use Rattle.matrix.proofs.lu.exchange.Statement.{statement}
-use Rattle.matrix.proofs.lu.exchange.Tie as tie
+use Rattle.matrix.proofs.lu.exchange.Goals as goal
 
 module _ (n m k j : ℕ) (a : List Float) where
   -- the two writes
@@ -32,20 +31,8 @@ both_written : (n m k j : ℕ) (a b d : List Float) {tmp other : Float} → tmp 
     → b ≡ stored n a m j other → d ≡ stored n b k j tmp → d ≡ exchanged_of n m k j a
 both_written n m k j a b d e₁ e₂ e₃ e₄ = e₄ ∙ rw (e₃, e₁, e₂) (exchanged n m k j a)
 
-returns : tie.Need-returns
-returns c =
-    let the-get = c.before.before.before.before.before.before.before.before.before.before.get in
-    let the-get2 = c.before.before.before.before.before.before.before.before.get2 in
-    let the-put = c.before.before.before.before.before.before.put in
-    both_written _ _ _ _ _ _ _ the-get.ensures the-get2.ensures the-put.ensures c.before.before.put2.ensures
-
-pub exchange_spec : {M : Type 1} → statement M
-exchange_spec =
-    tie.close
-    (tie.spec
-    (λ c κs. omega arith)
-    (λ c κs. omega arith)
-    (λ c κs. omega arith)
-    (λ c κs. omega arith)
-    (λ c. omega arith)
-    returns)
+pub returns : goal.returns
+returns c = let the-get = c.get-tmp in
+    let the-get2 = c.get-other in
+    let the-put = c.put in
+    both_written _ _ _ _ _ _ _ the-get.ensures the-get2.ensures the-put.ensures c.put-2.ensures

@@ -11,27 +11,15 @@ use Rattle.loops.specs.Arithmetic.{◌⊘◌, one}
 use Rattle.matrix.specs.Lu.{exchanged_of, stage_of}
 use Rattle.matrix.specs.Rows.{row_turn, stage_byRows}
 use Rattle.matrix.proofs.Rows.{stage_by_rows}
-use Rattle.matrix.proofs.lu.stage.Statement.{statement}
-use Rattle.matrix.proofs.lu.stage.Tie as tie
+use Rattle.matrix.proofs.lu.stage.Goals as goal
 
 in_order : (n m k : ℕ) (a b d : List Float) {pivot : Float} → k < n → length a ≡ n * n → pivot ≡ cell n a m k → b ≡ loop k n (exchanged_of n m k) a
     → d ≡ loop (k + 1) n (row_turn n k (one ⊘ pivot)) b → d ≡ stage_of n m k a
 unfolding stage_byRows
 in_order n m k a b d h s e₁ e₂ e₃ = e₃ ∙ rw (e₂, e₁) (stage_by_rows n m k h a s)
 
-returns : tie.Need-returns
-returns c =
-    let asked = c.before.before.before.before.before.before.before.before.before.before.before.requires in
-    let the-get = c.before.before.before.before.before.before.before.before.get in
-    let the-exchange-rows = c.before.before.before.before.before.before.exchange-rows in
-    in_order _ _ _ _ _ _ asked.1 asked.2 the-get.ensures the-exchange-rows.ensures c.before.before.rows.ensures
-
-pub stage_spec : {M : Type 1} → statement M
-stage_spec =
-    tie.close
-    (tie.spec
-    (λ c κs. omega arith)
-    (λ c κs. omega arith)
-    (λ c κs. omega arith)
-    (λ c. omega arith)
-    returns)
+pub returns : goal.returns
+returns c = let asked = c.requires in
+    let the-get = c.get-pivot in
+    let the-exchange-rows = c.exchange_rows in
+    in_order _ _ _ _ _ _ asked.1 asked.2 the-get.ensures the-exchange-rows.ensures c.rows.ensures

@@ -9,8 +9,7 @@ use lib.Ieee.Bits.{nan_bits_is}
 use Rattle.number.specs.Helpers.{abs_of}
 use Rattle.loops.specs.laws.FloatLaws.{is_nan_lem, is_number}
 use Rattle.number.specs.laws.Sign.{cleared, magnitude_is_number}
-use Rattle.number.proofs.helpers.abs.Statement.{statement}
-use Rattle.number.proofs.helpers.abs.Tie as tie
+use Rattle.number.proofs.helpers.abs.Goals as goal
 
 masked : (x : Float) → T (fits binary64 x) → ne x x ≡ false → of_bits binary64 (bit_and (to_bits binary64 x) (2 ^ 63 - 1)) ≡ abs_of x
 masked x f e = ap (of_bits binary64) (and_mask (to_bits binary64 x) 63) ∙ cleared x f (is_number x e)
@@ -19,18 +18,15 @@ masked x f e = ap (of_bits binary64) (and_mask (to_bits binary64 x) 63) ∙ clea
 masked_is_number : (x : Float) → T (fits binary64 x) → ne x x ≡ false → T (not (nan_bits binary64 (bit_and (to_bits binary64 x) (2 ^ 63 - 1))))
 masked_is_number x f e = rw (nan_bits_is, masked x f e) (magnitude_is_number x (is_number x e))
 
-returns : tie.Need-returns
+pub returns-then-x : goal.returns-then-x
 unfolding abs_of
-returns c = rw (is_nan_lem _ c.if1.true)
+returns-then-x c = rw (is_nan_lem _ c.if-x.true)
 
-float-to-bits-result : tie.Need-float-to-bits-result
-float-to-bits-result c = is_number _ c.if1.false
+pub float_to_bits-result : goal.float_to_bits-result
+float_to_bits-result c = is_number _ c.if-x.false
 
-float-from-bits-result : tie.Need-float-from-bits-result
-float-from-bits-result c = masked_is_number _ (subst T (sym c.before.well-formed.0.1) tt) c.if1.false
+pub float_from_bits-result : goal.float_from_bits-result
+float_from_bits-result c = masked_is_number _ (subst T (sym c.well_formed.0.1) tt) c.if-x.false
 
-returns-2 : tie.Need-returns-2
-returns-2 c = masked _ (subst T (sym c.before.well-formed.0.1) tt) c.if1.false
-
-pub abs_spec : {M : Type 1} → statement M
-abs_spec = tie.close (tie.spec returns float-to-bits-result float-from-bits-result returns-2)
+pub returns : goal.returns
+returns c = masked _ (subst T (sym c.well_formed.0.1) tt) c.if-x.false

@@ -1,0 +1,22 @@
+-- `cell::get` meets its contract: a cell of n rows of n lies among their n * n numbers, so its place neither wraps nor leaves
+-- the slice. Assumes nothing.
+use native.Mathlib.Omega.{arith}
+use borrow.Author.Rules.{rules}
+use Rattle.loops.specs.laws.RowLaws.{inside}
+use Rattle.matrix.proofs.cell.get.Goals as goal
+
+pub overflow_mul-result : goal.overflow_mul-result
+overflow_mul-result c = omega (arith, inside c.requires.0 c.requires.1)
+
+pub overflow_add-result : goal.overflow_add-result
+overflow_add-result c = omega (arith, inside c.requires.0 c.requires.1)
+
+-- LOST mul-result-2 : tie.Need-overflow-mul-result-2
+-- LOST mul-result-2 c = omega (arith, inside c.requires.0 c.requires.1, c.well-formed)
+-- LOST 
+
+pub bounds-a-r : goal.bounds-a-r
+bounds-a-r c = omega (arith, inside c.requires.0 c.requires.1)
+
+pub returns : goal.returns
+returns c = search rules

@@ -1,0 +1,25 @@
+-- `cell::put` meets its contract: a cell of n rows of n lies among their n * n numbers, so its place neither wraps nor leaves
+-- the slice. Assumes nothing.
+use native.Mathlib.Omega.{arith}
+use borrow.Author.Rules.{rules}
+use Rattle.loops.specs.laws.RowLaws.{inside}
+use Rattle.matrix.proofs.cell.put.Goals as goal
+
+pub overflow_mul-a : goal.overflow_mul-a
+overflow_mul-a c = omega (arith, inside c.requires.0 c.requires.1)
+
+pub overflow_add-a : goal.overflow_add-a
+overflow_add-a c = omega (arith, inside c.requires.0 c.requires.1)
+
+-- LOST mul-a-2 : tie.Need-overflow-mul-a-2
+-- LOST mul-a-2 c = omega (arith, inside c.requires.0 c.requires.1, c.well-formed)
+-- LOST 
+
+pub bounds-a-r : goal.bounds-a-r
+bounds-a-r c = omega (arith, inside c.requires.0 c.requires.1)
+
+pub shape_of-a : goal.shape_of-a
+shape_of-a c = search rules
+
+pub returns : goal.returns
+returns c = search rules
