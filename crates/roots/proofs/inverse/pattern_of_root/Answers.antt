@@ -1,0 +1,6 @@
+-- `roots::inverse::pattern_of_root` meets its contract: what is settled is the root, and so is what the search finds. Assumes nothing.
+use borrow.Author.Rules.{rules}
+use Rattle.roots.proofs.inverse.pattern_of_root.Goals as goal
+
+pub returns-in-At : goal.returns-in-At
+returns-in-At c = rw c.c-1.given.1 at c.settle.ensures

@@ -1,0 +1,14 @@
+use mathlib.Core.Path.{◌≡◌}
+use Prim.Native.Nat.{◌-◌, ◌*◌, ◌^◌, ◌≤◌}
+use native.Mathlib.Nat.{pow-zero, one-mul}
+use native.Mathlib.Omega.{arith}
+use Rattle.roots.proofs.Powers.{once_more}
+use Rattle.roots.specs.Quick.{Near}
+use Rattle.roots.proofs.root_quick.QuickLaws.{near_none, near_more}
+use Rattle.roots.proofs.root_quick.upper.Given as goal
+
+abbrev pub invariant-loop : goal.invariant-loop
+invariant-loop l = (l.counter ≤ l.k) × Near ((l.m * 2 ^ 10) ^ l.counter * (l.n * 2 ^ 11)) l.counter l.h
+
+abbrev pub decreases-loop : goal.decreases-loop
+decreases-loop l = l.k - l.counter

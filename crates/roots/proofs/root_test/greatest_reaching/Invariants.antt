@@ -1,0 +1,16 @@
+use mathlib.Core.Path.{◌≡◌, sym, ◌∙◌}
+use mathlib.Core.Logic.{⊎_elim}
+use mathlib.Core.Bool.{true, false}
+use Prim.Native.Nat.{ℕ, ◌+◌, ◌-◌, ◌^◌, ◌≤◌, ◌<◌}
+use native.Mathlib.Omega.{arith}
+use Rattle.roots.specs.Roots.{infinity_bits}
+use Rattle.roots.specs.laws.RootLaws.{rounded_is, zero_reaches, fails_past_infinity}
+use Rattle.roots.specs.Scaled.{reaches_root}
+use Rattle.roots.proofs.root_test.greatest_reaching.Given as goal
+
+abbrev pub invariant-loop-lo : goal.invariant-loop-lo
+invariant-loop-lo l =
+    Bracketed l.k l.x.digits l.x.places l.lo l.hi × (l.stride < 2 ^ 34)
+
+abbrev pub decreases-loop-lo : goal.decreases-loop-lo
+decreases-loop-lo l = l.hi - l.lo

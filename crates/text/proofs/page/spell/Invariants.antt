@@ -1,0 +1,15 @@
+use mathlib.Core.Path.{◌≡◌, refl, sym, ◌∙◌}
+use Prim.Native.Nat.{◌≤◌}
+use native.Mathlib.Nat.{mod-lt}
+use native.Mathlib.Omega.{arith}
+use lib.ListN.{length, length-set}
+use Rattle.text.specs.Digits.{digit}
+use Rattle.text.proofs.Spelling.{written_into, written_into_more, none_left, spelled_into_is_spelled}
+use Rattle.text.proofs.page.spell.Given as goal
+
+abbrev pub invariant-loop-left : goal.invariant-loop-left
+invariant-loop-left l =
+    (length l.out ≡ length l.initial.out) × ((l.left ≤ l.k) × (written_into digit l.base l.at l.left l.rest l.out ≡ written_into digit l.base l.at l.k l.n l.initial.out))
+
+abbrev pub decreases-loop-left : goal.decreases-loop-left
+decreases-loop-left l = l.left
