@@ -58,7 +58,7 @@ def snake(name):
         if part[:1].isupper():
             parts.append(part)
             continue
-        parts.append(re.sub(r"([a-z0-9])([A-Z])([a-z]?)", lambda m: m.group(1) + "_" + m.group(2).lower() + m.group(3), part))
+        parts.append(re.sub(r"(?<=[a-z0-9])[A-Z]", lambda m: "_" + m.group(0).lower(), part))
     out = parts[0]
     for before, after in zip(parts, parts[1:]):
         joined_to_a_type = before[:1].isupper() or after[:1].isupper()

@@ -3,7 +3,7 @@ ghost use Rattle.core.specs.Prelude.{◌≡◌, ℕ, ◌+◌, ◌*◌, ◌<◌, 
 ghost use Rattle.rules.specs.laws.Ready.{Room};
 ghost use Rattle.rules.specs.State.{left, changed as changedOf};
 ghost use Rattle.bdf.specs.Core.{whole};
-ghost use Rattle.rules.specs.Attempt.{rescaled_d, to_hmax, to_hmin, aim_at, cut_atEnd, aimed};
+ghost use Rattle.rules.specs.Attempt.{rescaled_d, to_hmax, to_hmin, aim_at, cut_at_end, aimed};
 
 use crate::core::Core;
 use crate::places::row;
@@ -71,7 +71,7 @@ fn aim_of(direction: f64, order: usize, x: f64, h: f64) -> Aim
 
 fn cut_at_end(ws: &mut [f64], p: Core) -> Aimed
     requires { Room p.n ws.old × (1 ≤ p.order) × (p.order ≤ 5) }
-    ensures { (pivot : List ℕ) → left result ws.new ≡ cut_atEnd (whole p pivot) ws.old }
+    ensures { (pivot : List ℕ) → left result ws.new ≡ cut_at_end (whole p pivot) ws.old }
 {
     let step_to_end = number::abs(p.span.xend - p.x);
     if step_to_end == 0.0 {

@@ -1,7 +1,7 @@
 // The weighted root mean square of the right side over the scale: `weighted_rms_scaled(&rhs, &scale)`.
 ghost use Rattle.core.specs.Prelude.{◌≡◌, ◌<◌, ◌≤◌};
 ghost use Rattle.rules.specs.laws.Ready.{Room};
-ghost use Rattle.rules.specs.Norm.{square_of, sum_ofSquares, rhs_norm};
+ghost use Rattle.rules.specs.Norm.{square_of, sum_of_squares, rhs_norm};
 
 use crate::places::{RHS, SCALE, get};
 use crate::predict::EPSILON;
@@ -16,7 +16,7 @@ fn square(v: f64, s: f64) -> f64
 
 fn sum_of_squares(ws: &[f64], n: usize) -> f64
     requires { Room n ws.now }
-    ensures { result ≡ sum_ofSquares n ws.now }
+    ensures { result ≡ sum_of_squares n ws.now }
 {
     let mut sum = 0.0;
     let mut i = 0;

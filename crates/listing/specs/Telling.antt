@@ -3,7 +3,7 @@
 use Rattle.std.specs.Prelude.{◌≡◌, true, false, List, ◌∷◌, ◌++◌, ℕ, Float}
 use Rattle.lines.specs.Types.{Status}
 use Rattle.lines.specs.Lines.{end_line}
-use Rattle.rules.specs.Answers.{is_question_orNotice}
+use Rattle.rules.specs.Answers.{is_question_or_notice}
 use Rattle.rules.specs.State.{After}
 use Rattle.rules.specs.Calls.{Configuration, beginning, going_on}
 use Rattle.rules.specs.History.{Exchange, begins, goes_on, is_refused_call}
@@ -16,8 +16,8 @@ use Rattle.listing.specs.Printed.{line_of, blank_work, blank_question}
 
 -- the last answer prints its line; after any other come the lines that follow the reply to it
 pub data Tells (a : List Float) : After Turn → List ℕ → Type 0 where
-  last : {g : After Turn} → is_question_orNotice g.is.answer ≡ false → Tells a g (line_of g)
-  more : {g : After Turn} {t : List ℕ} → is_question_orNotice g.is.answer ≡ true → Tells a (replied a g) t → Tells a g (line_of g ++ t)
+  last : {g : After Turn} → is_question_or_notice g.is.answer ≡ false → Tells a g (line_of g)
+  more : {g : After Turn} {t : List ℕ} → is_question_or_notice g.is.answer ≡ true → Tells a (replied a g) t → Tells a g (line_of g ++ t)
 
 -- ---- the exchange that it is
 

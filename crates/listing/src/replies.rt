@@ -1,7 +1,7 @@
 // What is replied to the solver: A y to a question for the derivative, A to one for the Jacobian, Continue to a notice.
 ghost use Rattle.std.specs.Prelude.{◌≡◌, ◌++◌, ◌*◌, ◌≤◌, length, take, drop};
 ghost use Rattle.matrix.specs.Size.{max_n};
-ghost use Rattle.rules.specs.Answers.{is_question_orNotice};
+ghost use Rattle.rules.specs.Answers.{is_question_or_notice};
 ghost use Rattle.rules.specs.State.{after};
 ghost use Rattle.listing.specs.Replies.{reply_to, values_for};
 ghost use Rattle.listing.specs.Replies.{replied as repliedOf};
@@ -12,7 +12,7 @@ use matrix::MAX_N;
 
 // Whether a run waits for a reply.
 pub(crate) fn waits(answer: Answer) -> bool
-    ensures { result ≡ is_question_orNotice answer }
+    ensures { result ≡ is_question_or_notice answer }
 {
     match answer {
         Answer::Derivative(_) => true,

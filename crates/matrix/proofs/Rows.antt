@@ -17,7 +17,7 @@ use Rattle.loops.specs.Cell.{cell, stored}
 use Rattle.loops.specs.laws.RowLaws.{inside}
 use Rattle.loops.specs.Arithmetic.{◌⊘◌, +0, one}
 use Rattle.matrix.specs.Lu.{exchanged_of, scale_turn, eliminate_turn, column_turn, stage_of}
-use Rattle.matrix.specs.Rows.{added_of, cell_turn, row_turn, stage_byRows}
+use Rattle.matrix.specs.Rows.{added_of, cell_turn, row_turn, stage_by_rows}
 use Rattle.matrix.specs.laws.LengthLaws.{exchanged_long}
 use Rattle.matrix.proofs.Writes.{rows_apart}
 use Rattle.matrix.proofs.Commuting.{cells_commute, scale_passes_cell, exchange_passes_cell, exchange_passes_scale}
@@ -133,8 +133,8 @@ module _ (n m k : ℕ) (small : k < n) where
         (λ i i' from order below s. loop_pass (k + 1) n (scales i') (cell_turn n k i) s
         (λ j from' below'. scale_passes_cell n k small t i i' j (omega arith) (omega arith) below' (λ e. omega arith))))
 
-  pub stage_by_rows : (a : List Float) → Square n a → stage_byRows n m k a ≡ stage_of n m k a
-  unfolding stage_byRows stage_of
+  pub stage_by_rows : (a : List Float) → Square n a → stage_by_rows n m k a ≡ stage_of n m k a
+  unfolding stage_by_rows stage_of
   stage_by_rows a s =
       let t = one ⊘ cell n a m k in
       let swapped = exchanges k a in

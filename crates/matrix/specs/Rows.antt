@@ -25,5 +25,5 @@ unfoldable pub row_turn : ℕ → ℕ → Float → ℕ → List Float → List 
 row_turn n k t i a = loop (k + 1) n (cell_turn n k i) (scale_turn n k t i a)
 
 -- stage k with the pivot in row m: both rows exchanged from column k on, then row after row
-unfoldable pub stage_byRows : ℕ → ℕ → ℕ → List Float → List Float
-stage_byRows n m k a = loop (k + 1) n (row_turn n k (one ⊘ cell n a m k)) (loop k n (exchanged_of n m k) a)
+unfoldable pub stage_by_rows : ℕ → ℕ → ℕ → List Float → List Float
+stage_by_rows n m k a = loop (k + 1) n (row_turn n k (one ⊘ cell n a m k)) (loop k n (exchanged_of n m k) a)

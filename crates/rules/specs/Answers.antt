@@ -62,8 +62,8 @@ abbrev pub is_notice : Answer → Bool
 is_notice a = is_start a || is_step a
 
 -- all but the end and the refusals
-abbrev pub is_question_orNotice : Answer → Bool
-is_question_orNotice a = is_question a || is_notice a
+abbrev pub is_question_or_notice : Answer → Bool
+is_question_or_notice a = is_question a || is_notice a
 
 abbrev pub NoticeOrEnd : Answer → Type 0
 NoticeOrEnd a = (is_notice a || is_end a) ≡ true

@@ -52,17 +52,17 @@ aim_of p h = aim_at p.span.direction p.order p.x h
 
 -- A way that leads past xend is cut to what is left of it, which rounding may leave an ulp short or beyond; where nothing is left, the
 -- run is at its end
-unfoldable pub cut_atEnd : Progress → List Float → Left Aimed
-cut_atEnd p ws =
-    let step_toEnd = abs_of (p.span.xend ⊖ p.x) in
-    let factor = step_toEnd ⊘ p.pace.h in
+unfoldable pub cut_at_end : Progress → List Float → Left Aimed
+cut_at_end p ws =
+    let step_to_end = abs_of (p.span.xend ⊖ p.x) in
+    let factor = step_to_end ⊘ p.pace.h in
     let h = p.pace.h ⊗ factor in
-    if Ieee.eq step_toEnd +0 then left AtEnd ws else left (At (changed h) (aim_of p h)) (rescaled_d p.n p.order factor ws)
+    if Ieee.eq step_to_end +0 then left AtEnd ws else left (At (changed h) (aim_of p h)) (rescaled_d p.n p.order factor ws)
 
 unfoldable pub aimed : Progress → List Float → Left Aimed
 aimed p ws =
     let a = aim_of p p.pace.h in
-    if Ieee.lt +0 (p.span.direction ⊗ (a.x_new ⊖ p.span.xend)) then cut_atEnd p ws else left (At p.pace a) ws
+    if Ieee.lt +0 (p.span.direction ⊗ (a.x_new ⊖ p.span.xend)) then cut_at_end p ws else left (At p.pace a) ws
 
 -- ---- what an attempt comes to
 

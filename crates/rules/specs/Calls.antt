@@ -56,14 +56,14 @@ pub record Call : Type 0 where
 abbrev pub going_on : Run → Call → After Turn
 going_on run call = go_on_of run call.reply call.values call.ws call.q
 
-abbrev pub going_onChecked : Run → Call → Check
-going_onChecked run call = go_checked run.awaited run.at call.reply (length call.values) (length call.ws) (length call.q)
+abbrev pub going_on_checked : Run → Call → Check
+going_on_checked run call = go_checked run.awaited run.at call.reply (length call.values) (length call.ws) (length call.q)
 
-abbrev pub going_onTurn : Run → Call → Check → After Turn
-going_onTurn run call k = go_turn run call.reply call.values k call.ws call.q
+abbrev pub going_on_turn : Run → Call → Check → After Turn
+going_on_turn run call k = go_turn run call.reply call.values k call.ws call.q
 
-abbrev pub going_onPassed : Run → Call → After Turn
-going_onPassed run call = go_within run.awaited run.at call.reply call.values call.ws call.q
+abbrev pub going_on_passed : Run → Call → After Turn
+going_on_passed run call = go_within run.awaited run.at call.reply call.values call.ws call.q
 
 -- ---- from one call to the next
 

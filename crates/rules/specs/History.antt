@@ -3,7 +3,7 @@
 use Rattle.std.specs.Prelude.{◌≡◌, List, [], ◌∷◌, Bool, true, false, ◌&&◌, ℕ, ◌+◌, ltb, length, Float}
 use Rattle.loops.specs.Choice.{if◌then◌else◌}
 use Rattle.rules.specs.Types.{Setting, Unset, Given, Answer, Run, Turn}
-use Rattle.rules.specs.Answers.{is_derivative, is_jacobian, is_start, is_step, is_refused, is_question_orNotice}
+use Rattle.rules.specs.Answers.{is_derivative, is_jacobian, is_start, is_step, is_refused, is_question_or_notice}
 use Rattle.rules.specs.Calls.{Configuration, beginning, Call, going_on}
 
 -- ---- the exchange
@@ -50,7 +50,7 @@ abbrev pub step_notices : List Answer → ℕ
 step_notices h = tally is_step h
 
 abbrev pub questions_and_notices : List Answer → ℕ
-questions_and_notices h = tally is_question_orNotice h
+questions_and_notices h = tally is_question_or_notice h
 
 -- ---- the derivative of an automatic start
 

@@ -60,8 +60,8 @@ abbrev pub micro : Float
 micro = Ieee.of_bits binary64 0x3eb0_c6f7_a0b5_ed8d
 
 -- 1e-10
-abbrev pub tenth_ofNano : Float
-tenth_ofNano = Ieee.of_bits binary64 0x3ddb_7cdf_d9d7_bdbb
+abbrev pub tenth_of_nano : Float
+tenth_of_nano = Ieee.of_bits binary64 0x3ddb_7cdf_d9d7_bdbb
 
 -- 1e-15
 abbrev pub femto : Float

@@ -16,9 +16,9 @@ square_of v s = let ratio = v ⊘ (if Ieee.eq s +0 then epsilon else s) in ratio
 unfoldable pub square_turn : ℕ → List Float → ℕ → Float → Float
 square_turn n ws i sum = sum ⊕ square_of (get n ws rhs i) (get n ws scale i)
 
-unfoldable pub sum_ofSquares : ℕ → List Float → Float
-sum_ofSquares n ws = loop 0 n (square_turn n ws) +0
+unfoldable pub sum_of_squares : ℕ → List Float → Float
+sum_of_squares n ws = loop 0 n (square_turn n ws) +0
 
 -- (sum / values.len()).sqrt()
 unfoldable pub rhs_norm : ℕ → List Float → Float
-rhs_norm n ws = sqrt_of (sum_ofSquares n ws ⊘ float n)
+rhs_norm n ws = sqrt_of (sum_of_squares n ws ⊘ float n)

@@ -6,7 +6,7 @@ use Rattle.loops.specs.Loop.{loop}
 use Rattle.number.specs.Helpers.{abs_of, signum_of, min_of, max_of}
 use Rattle.roots.specs.Roots.{sqrt_of}
 use Rattle.loops.specs.Arithmetic.{◌⊕◌, ◌⊖◌, ◌⊗◌, ◌⊘◌, +0}
-use Rattle.rules.specs.Literals.{hundred, hundredth, milli, micro, tenth_ofNano, femto}
+use Rattle.rules.specs.Literals.{hundred, hundredth, milli, micro, tenth_of_nano, femto}
 use Rattle.rules.specs.Places.{y, f0, f1, y1, rtol, atol, get, put}
 
 -- sk = atol[i] + rtol[i] * y[i].abs()
@@ -23,7 +23,7 @@ squares n v ws = loop 0 n (squares_turn n v ws) +0
 -- 1e-6 where a sum is at most 1e-10, else a hundredth of the quotient's root
 unfoldable pub raw_guess : Float → Float → Float
 raw_guess dnf dny =
-    if (Ieee.le dnf tenth_ofNano || Ieee.le dny tenth_ofNano)
+    if (Ieee.le dnf tenth_of_nano || Ieee.le dny tenth_of_nano)
     then micro
     else sqrt_of (dny ⊘ dnf) ⊗ hundredth
 

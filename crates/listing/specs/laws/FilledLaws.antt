@@ -8,7 +8,7 @@ use Rattle.text.specs.declared.page.Place.{Place}
 use Rattle.text.specs.declared.page.Place.TheVariants.{At, Full}
 use Rattle.text.specs.Page.{Page as Put, puts}
 use Rattle.lines.specs.Lines.{refusal_line}
-use Rattle.rules.specs.Answers.{is_question_orNotice}
+use Rattle.rules.specs.Answers.{is_question_or_notice}
 use Rattle.rules.specs.State.{After, after}
 use Rattle.listing.specs.Types.{Run, Turn}
 use Rattle.listing.specs.Printed.{line_of}
@@ -42,7 +42,7 @@ Within u = u.0.is.length ≤ length u.1
 onward_within : (a : List Float) (g : After Turn) (next : ℕ) (page : List ℕ) → next ≤ length page → Within (onward a g next, page)
 unfolding onward
 onward_within a g next page h =
-    either (λ (s : After Sheet). s.is.length ≤ length page) (is_question_orNotice g.is.answer) (λ _. h) (λ _. h)
+    either (λ (s : After Sheet). s.is.length ≤ length page) (is_question_or_notice g.is.answer) (λ _. h) (λ _. h)
 
 answered_at_within :
     (a : List Float) (g : After Turn) (at : ℕ) (out : List ℕ) (p : Put) → PutAt (line_of g) at out p → at ≤ length out → Within (answered_at a g at p)

@@ -3,7 +3,7 @@
 use Rattle.std.specs.Prelude.{◌≡◌, refl, Bool, true, false, List, [], ◌∷◌, ◌++◌, ℕ, zero, suc, ◌+◌, ◌*◌, ◌≤◌, length, Float}
 use Rattle.std.proofs.Common.{sym, true≢false, mul-le-mul, arith}
 use Rattle.matrix.specs.Size.{max_n}
-use Rattle.rules.specs.Answers.{is_refused, is_question_orNotice}
+use Rattle.rules.specs.Answers.{is_refused, is_question_or_notice}
 use Rattle.rules.specs.State.{After}
 use Rattle.rules.specs.Calls.{Configuration, beginning}
 use Rattle.rules.specs.History.{questions_and_notices}
@@ -22,8 +22,8 @@ use Rattle.listing.specs.laws.TellingLaws.{Come, come_on, come_to_begin}
 
 -- from g on at most k answers come, and a page of `ample` bytes has room for the line of each; for the last one's it always has
 pub data Fits (a : List Float) : ℕ → After Turn → Type 0 where
-  fits_last : {k : ℕ} {g : After Turn} → is_question_orNotice g.is.answer ≡ false → Fits a (suc k) g
-  fits_more : {k : ℕ} {g : After Turn} → is_question_orNotice g.is.answer ≡ true → length (line_of g) ≤ ample → Fits a k (replied a g) → Fits a (suc k) g
+  fits_last : {k : ℕ} {g : After Turn} → is_question_or_notice g.is.answer ≡ false → Fits a (suc k) g
+  fits_more : {k : ℕ} {g : After Turn} → is_question_or_notice g.is.answer ≡ true → length (line_of g) ≤ ample → Fits a k (replied a g) → Fits a (suc k) g
 
 -- a number of answers that one page can come through
 abbrev pub Fitting : List Float → After Turn → Type 0
@@ -38,7 +38,7 @@ module _ {c : Configuration} (a : List Float) (wide : length a ≡ max_n * max_n
       Fits a (suc k) g
   come_fits zero g before past come few = by_test _ refl
     where
-      by_test : (b : Bool) → is_question_orNotice g.is.answer ≡ b → Fits a 1 g
+      by_test : (b : Bool) → is_question_or_notice g.is.answer ≡ b → Fits a 1 g
       by_test true e = let counted = rw e at (no_longer come.exchange) in absurd (omega arith)
       by_test false e = fits_last e
   come_fits (suc k) g before past come few =
@@ -46,7 +46,7 @@ module _ {c : Configuration} (a : List Float) (wide : length a ≡ max_n * max_n
       come_fits k (replied a g) (before ++ line_of g) (g.is.answer ∷ past) (come_on a wide g before past come e) (omega arith)) _ refl
     where
       by_test :
-          (is_question_orNotice g.is.answer ≡ true → Fits a (suc k) (replied a g)) → (b : Bool) → is_question_orNotice g.is.answer ≡ b →
+          (is_question_or_notice g.is.answer ≡ true → Fits a (suc k) (replied a g)) → (b : Bool) → is_question_or_notice g.is.answer ≡ b →
           Fits a (suc (suc k)) g
       by_test rest true e =
           let run = g.is.run in
@@ -54,7 +54,7 @@ module _ {c : Configuration} (a : List Float) (wide : length a ≡ max_n * max_n
       by_test rest false e = fits_last e
 
 -- what is asked for or told is no refusal
-no_refusal : (answer : Answer) → is_question_orNotice answer ≡ true → is_refused answer ≡ false
+no_refusal : (answer : Answer) → is_question_or_notice answer ≡ true → is_refused answer ≡ false
 no_refusal (Derivative x) e = refl
 no_refusal (Jacobian x) e = refl
 no_refusal (Start x) e = refl
@@ -64,7 +64,7 @@ no_refusal (Refused why) e = absurd (true≢false (sym e))
 
 -- a run that asks has limits that were accepted
 asking_bounded :
-    {c : Configuration} {run : Run} {answer : Answer} {past : List Answer} → Kept c run (answer ∷ past) → is_question_orNotice answer ≡ true →
+    {c : Configuration} {run : Run} {answer : Answer} {past : List Answer} → Kept c run (answer ∷ past) → is_question_or_notice answer ≡ true →
     Bounded c.settings
 asking_bounded (idle none) e = absurd (true≢false (sym e))
 asking_bounded (works s i t) e = s.bounded
@@ -81,7 +81,7 @@ most_enough c b =
 pub beginning_fits : (c : Configuration) (a : List Float) → length a ≡ max_n * max_n → Fitting a (beginning c blank_work blank_question)
 beginning_fits c a wide = by_test _ refl
   where
-    by_test : (b : Bool) → is_question_orNotice (beginning c blank_work blank_question).is.answer ≡ b → Fitting a (beginning c blank_work blank_question)
+    by_test : (b : Bool) → is_question_or_notice (beginning c blank_work blank_question).is.answer ≡ b → Fitting a (beginning c blank_work blank_question)
     by_test true e =
         let g = beginning c blank_work blank_question in
         let come = come_to_begin {c = c} a wide (no_refusal g.is.answer e) in

@@ -7,7 +7,7 @@ use Rattle.matrix.specs.Size.{max_n}
 use Rattle.lines.specs.Lines.{refusal_line}
 use Rattle.lines.specs.laws.FieldLaws.{length_state, length_refusal, length_end}
 use Rattle.rules.specs.Refusals.{number_of}
-use Rattle.rules.specs.Answers.{is_question_orNotice}
+use Rattle.rules.specs.Answers.{is_question_or_notice}
 use Rattle.rules.specs.State.{After}
 use Rattle.rules.specs.Calls.{size}
 use Rattle.listing.specs.Types.{Answer, Derivative, Jacobian, Start, Step, End, Refused, Steps, Evals, Turn}
@@ -29,7 +29,7 @@ refusal_short number =
 
 -- an answer after which nothing comes has a line
 last_answer_short :
-    (answer : Answer) (y : List Float) (steps : Steps) (evals : Evals) → is_question_orNotice answer ≡ false →
+    (answer : Answer) (y : List Float) (steps : Steps) (evals : Evals) → is_question_or_notice answer ≡ false →
     Short (answer_line answer y steps evals)
 last_answer_short (Derivative x) y steps evals e = absurd (true≢false e)
 last_answer_short (Jacobian x) y steps evals e = absurd (true≢false e)
@@ -47,12 +47,12 @@ last_answer_short (End status h) y steps evals e =
     (omega arith, omega arith)
 last_answer_short (Refused why) y steps evals e = refusal_short (number_of why)
 
-pub last_line_short : (g : After Turn) → is_question_orNotice g.is.answer ≡ false → Short (line_of g)
+pub last_line_short : (g : After Turn) → is_question_or_notice g.is.answer ≡ false → Short (line_of g)
 last_line_short g e = last_answer_short g.is.answer (take (size g) g.q) g.is.run.at.steps g.is.run.at.evals e
 
 -- the line of any other tells at most 32 components
 answer_short :
-    (answer : Answer) (y : List Float) (steps : Steps) (evals : Evals) → is_question_orNotice answer ≡ true → length y ≤ max_n →
+    (answer : Answer) (y : List Float) (steps : Steps) (evals : Evals) → is_question_or_notice answer ≡ true → length y ≤ max_n →
     length (answer_line answer y steps evals) ≤ ample
 answer_short (Derivative x) y steps evals e few = omega arith
 answer_short (Jacobian x) y steps evals e few = omega arith
@@ -61,6 +61,6 @@ answer_short (Step old new start h) y steps evals e few = omega (arith, length_s
 answer_short (End status h) y steps evals e few = absurd (true≢false (sym e))
 answer_short (Refused why) y steps evals e few = absurd (true≢false (sym e))
 
-pub line_short : (g : After Turn) → is_question_orNotice g.is.answer ≡ true → size g ≤ max_n → length (line_of g) ≤ ample
+pub line_short : (g : After Turn) → is_question_or_notice g.is.answer ≡ true → size g ≤ max_n → length (line_of g) ≤ ample
 line_short g e few =
     answer_short g.is.answer (take (size g) g.q) g.is.run.at.steps g.is.run.at.evals e (omega (arith, length-take (size g) g.q))

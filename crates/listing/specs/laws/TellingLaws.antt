@@ -12,7 +12,7 @@ use Rattle.loops.specs.Arithmetic.{+0}
 use Rattle.loops.specs.laws.ChoiceLaws.{either, when_false}
 use Rattle.text.specs.laws.Fronts.{squared}
 use Rattle.matrix.specs.Size.{max_n}
-use Rattle.rules.specs.Answers.{is_refused, is_question_orNotice}
+use Rattle.rules.specs.Answers.{is_refused, is_question_or_notice}
 use Rattle.rules.specs.Places.{need}
 use Rattle.rules.specs.State.{After, after}
 use Rattle.rules.specs.Calls.{Configuration, beginning, going_on, size}
@@ -29,7 +29,7 @@ use Rattle.listing.specs.Telling.{last, more, lines_of, Ours, Ran}
 use Rattle.listing.specs.laws.LengthLaws.{beginning_keeps_lengths, call_keeps_lengths, times_long}
 
 -- where the first answer is the last, `lines_from` is its line
-pub only_line : (a : List Float) (k : ℕ) (g : After Turn) → is_question_orNotice g.is.answer ≡ false → lines_from (suc k) a g ≡ line_of g
+pub only_line : (a : List Float) (k : ℕ) (g : After Turn) → is_question_or_notice g.is.answer ≡ false → lines_from (suc k) a g ≡ line_of g
 unfolding lines_from
 only_line a k g e = rw (when_false (lines_from k a (replied a g)) [] e) (append-nil (line_of g))
 
@@ -47,7 +47,7 @@ unmodified (Refused why) = refl
 module _ (a : List Float) (wide : length a ≡ max_n * max_n) where
   -- each brings what is asked for
   in_kind :
-      (answer : Answer) (run : Run) (ws q : List Float) → run.at.n ≤ max_n → length q ≡ 8 * max_n → is_question_orNotice answer ≡ true →
+      (answer : Answer) (run : Run) (ws q : List Float) → run.at.n ≤ max_n → length q ≡ 8 * max_n → is_question_or_notice answer ≡ true →
       RepliesTo run.at.n answer (replying a (after (record { answer = answer; run = run }) ws q))
   in_kind (Derivative x) run ws q few asks e =
       let n = run.at.n in
@@ -78,7 +78,7 @@ pub record Come (c : Configuration) (a : List Float) (g : After Turn) (before : 
 module _ {c : Configuration} (a : List Float) (wide : length a ≡ max_n * max_n) where
   -- past a question or a notice comes one more answer
   pub come_on :
-      (g : After Turn) (before : List ℕ) (past : List Answer) → Come c a g before past → is_question_orNotice g.is.answer ≡ true →
+      (g : After Turn) (before : List ℕ) (past : List Answer) → Come c a g before past → is_question_or_notice g.is.answer ≡ true →
       Come c a (replied a g) (before ++ line_of g) (g.is.answer ∷ past)
   unfolding replied
   come_on g before past come e =
@@ -106,7 +106,7 @@ module _ {c : Configuration} (a : List Float) (wide : length a ≡ max_n * max_n
   come_to_end :
       (answer : Answer) (run : Run) (ws q : List Float) (before : List ℕ) (past : List Answer) →
       let g : After Turn = after (record { answer = answer; run = run }) ws q in
-      Come c a g before past → is_question_orNotice answer ≡ false → Ran c a g before (line_of g ++ [])
+      Come c a g before past → is_question_or_notice answer ≡ false → Ran c a g before (line_of g ++ [])
   come_to_end (Derivative x) run ws q before past come e = absurd (true≢false e)
   come_to_end (Jacobian x) run ws q before past come e = absurd (true≢false e)
   come_to_end (Start x) run ws q before past come e = absurd (true≢false e)
@@ -130,7 +130,7 @@ module _ {c : Configuration} (a : List Float) (wide : length a ≡ max_n * max_n
 
   -- what runs from the next answer on runs from this one on
   one_before :
-      (g : After Turn) (before t : List ℕ) → is_question_orNotice g.is.answer ≡ true → Ran c a (replied a g) (before ++ line_of g) t →
+      (g : After Turn) (before t : List ℕ) → is_question_or_notice g.is.answer ≡ true → Ran c a (replied a g) (before ++ line_of g) t →
       Ran c a g before (line_of g ++ t)
   one_before g before t e r =
       record {
@@ -154,11 +154,11 @@ module _ {c : Configuration} (a : List Float) (wide : length a ≡ max_n * max_n
       Ran c a g before (lines_from (suc k) a g)
   unfolding lines_from
   come_through zero g before past come enough =
-      either (λ (t : List ℕ). Ran c a g before (line_of g ++ t)) (is_question_orNotice g.is.answer)
+      either (λ (t : List ℕ). Ran c a g before (line_of g ++ t)) (is_question_or_notice g.is.answer)
       (λ e. let counted = rw e at (no_longer come.exchange) in absurd (omega arith))
       (λ e. come_to_end g.is.answer g.is.run g.ws g.q before past come e)
   come_through (suc k) g before past come enough =
-      either (λ (t : List ℕ). Ran c a g before (line_of g ++ t)) (is_question_orNotice g.is.answer)
+      either (λ (t : List ℕ). Ran c a g before (line_of g ++ t)) (is_question_or_notice g.is.answer)
       (λ e. let longer : questions_and_notices (g.is.answer ∷ past) ≡ 1 + questions_and_notices past = rw e in
       one_before g before _ e (come_through k (replied a g) (before ++ line_of g) (g.is.answer ∷ past) (come_on g before past come e) (omega arith)))
       (λ e. come_to_end g.is.answer g.is.run g.ws g.q before past come e)

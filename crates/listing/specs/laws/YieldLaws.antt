@@ -9,7 +9,7 @@ use Rattle.text.specs.declared.page.Place.TheVariants.{At, Full}
 use Rattle.text.specs.Page.{Page as Put, puts}
 use Rattle.text.specs.laws.PageLaws.{length_laid}
 use Rattle.lines.specs.Lines.{refusal_line}
-use Rattle.rules.specs.Answers.{is_question_orNotice}
+use Rattle.rules.specs.Answers.{is_question_or_notice}
 use Rattle.rules.specs.State.{After, after}
 use Rattle.listing.specs.Types.{Run, Turn}
 use Rattle.listing.specs.Replies.{replied}
@@ -67,7 +67,7 @@ module _ (a : List Float) where
 
   -- the last answer
   last_gives :
-      (j : ℕ) (g : After Turn) (at : ℕ) (out : List ℕ) (p : Put) → Fitting a g → is_question_orNotice g.is.answer ≡ false →
+      (j : ℕ) (g : After Turn) (at : ℕ) (out : List ℕ) (p : Put) → Fitting a g → is_question_or_notice g.is.answer ≡ false →
       ample ≤ length out → Moves (line_of g) at out p → Gives (filled j a (answered_at a g at p))
   unfolding onward
   last_gives j g at out (At next, page) fits e room moved =
@@ -80,7 +80,7 @@ module _ (a : List Float) where
 
   -- any other: `next-gives` says what comes of the answer to it
   more_gives :
-      (j : ℕ) (g : After Turn) (at : ℕ) (out : List ℕ) (p : Put) → Fitting a g → is_question_orNotice g.is.answer ≡ true →
+      (j : ℕ) (g : After Turn) (at : ℕ) (out : List ℕ) (p : Put) → Fitting a g → is_question_or_notice g.is.answer ≡ true →
       length (line_of g) ≤ ample → ample ≤ length out → Moves (line_of g) at out p →
       ((next : ℕ) (page : List ℕ) → ample ≤ length page → Gives (filled j a (sheet_of (replied a g) next Not, page))) →
       Gives (filled j a (answered_at a g at p))

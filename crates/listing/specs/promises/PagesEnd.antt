@@ -7,7 +7,7 @@ use Rattle.std.proofs.Common.{sym, subst, inl, inr, arith, length-append, length
 use Rattle.loops.specs.laws.ChoiceLaws.{either}
 use Rattle.loops.specs.Refusal.{Outcome, gives, refuses}
 use Rattle.matrix.specs.Size.{max_n}
-use Rattle.rules.specs.Answers.{is_question_orNotice}
+use Rattle.rules.specs.Answers.{is_question_or_notice}
 use Rattle.rules.specs.State.{After}
 use Rattle.rules.specs.Calls.{beginning}
 use Rattle.job.specs.Reading.{configuration_of}
@@ -92,7 +92,7 @@ module _ (a : List Float) (l : After Listing) (outs : ℕ → List ℕ) (room : 
 -- what a run that was begun has to give fits, whichever matrix stands beside it where nothing is asked
 begun_fits : (g : After Turn) (b a : List Float) → Fitting b g → let l = begun_with g b a in ListingFits l.1 l.0
 begun_fits g b a f =
-    either (λ (m : List Float). Fitting m g) (is_question_orNotice g.is.answer) (λ _. f) (λ e. (1, omega arith, fits_last e))
+    either (λ (m : List Float). Fitting m g) (is_question_or_notice g.is.answer) (λ _. f) (λ e. (1, omega arith, fits_last e))
 
 -- what is opened fits
 opened_fits :

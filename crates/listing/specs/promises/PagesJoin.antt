@@ -14,7 +14,7 @@ use Rattle.loops.specs.laws.ChoiceLaws.{either, when_true, when_false}
 use Rattle.text.specs.declared.page.Place.TheVariants.{At, Full}
 use Rattle.text.specs.Page.{Page as Put, puts}
 use Rattle.lines.specs.Lines.{refusal_line}
-use Rattle.rules.specs.Answers.{is_question_orNotice}
+use Rattle.rules.specs.Answers.{is_question_or_notice}
 use Rattle.rules.specs.State.{After, after}
 use Rattle.rules.specs.promises.RunEnds.{most}
 use Rattle.job.specs.Reading.{configuration_of}
@@ -172,7 +172,7 @@ opened_in0 s a = opened s a blank_work blank_question
 -- what a run that was begun has to give, whichever matrix stands beside it where nothing is asked
 begun_remains : (g : After Turn) (b a : List Float) (k : ℕ) → Tells b g (lines_from (suc k) b g) → let l = begun_with g b a in Remains l.1 l.0 (lines_from (suc k) b g)
 begun_remains g b a k t =
-    either (λ (m : List Float). Tells m g (lines_from (suc k) b g)) (is_question_orNotice g.is.answer) (λ _. t)
+    either (λ (m : List Float). Tells m g (lines_from (suc k) b g)) (is_question_or_notice g.is.answer) (λ _. t)
     (λ e. let only = only_line b k g e in rw only (last e))
 
 -- what is opened has just the whole output to give

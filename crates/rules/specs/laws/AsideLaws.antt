@@ -22,7 +22,7 @@ use Rattle.rules.specs.Judge.{weigh_turn, weighed}
 use Rattle.rules.specs.Factor.{matrix_turn, matrix_cells, diagonal, matrix_row, matrix, factored}
 use Rattle.rules.specs.Order.{error_at, err_m, err_p}
 use Rattle.rules.specs.Rescale.{change_d}
-use Rattle.rules.specs.Attempt.{rescaled_d, to_hmax, to_hmin, fitted, cut_atEnd, aimed, predicted_all}
+use Rattle.rules.specs.Attempt.{rescaled_d, to_hmax, to_hmin, fitted, cut_at_end, aimed, predicted_all}
 use Rattle.rules.specs.Step.{error_ws}
 use Rattle.rules.specs.Reply.{first_turn, first_difference, differences}
 use Rattle.rules.specs.Begin.{tolerances}
@@ -170,7 +170,7 @@ module _ (r : Progress) {P : List Float → Type 0} (s : Survives r.n P) where
       either (λ (a : Left Pace). P a.ws) _ (λ _. rescaled_keeps s _ _ _ above) (λ _. above)
 
   pub aimed_keeps : (ws : List Float) → P ws → P (aimed r ws).ws
-  unfolding aimed cut_atEnd
+  unfolding aimed cut_at_end
   aimed_keeps ws p =
       either (λ (a : Left Aimed). P a.ws) _
       (λ _. either (λ (a : Left Aimed). P a.ws) _ (λ _. p) (λ _. rescaled_keeps s _ _ ws p))

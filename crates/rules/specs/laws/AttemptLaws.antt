@@ -8,7 +8,7 @@ use Rattle.rules.specs.Types.{Progress, Pace, Success, NeedLargerNMax, StepSizeT
 use Rattle.rules.specs.State.{with_pace, changed, After, after, Left, left}
 use Rattle.rules.specs.laws.Moved.{Moved}
 use Rattle.rules.specs.laws.MovedLaws.{moved_on, factoring_spared, stays, pace_moves, aim_moves, newton_moves, total_moves, rejected_moves, factored_moves, singular_moves}
-use Rattle.rules.specs.Attempt.{to_hmax, to_hmin, fitted, aimed, cut_atEnd, halved, newton_start, refactored, attempt_at, unless_stuck, headed, fitted_attempt, attempt, Tried, says, end}
+use Rattle.rules.specs.Attempt.{to_hmax, to_hmin, fitted, aimed, cut_at_end, halved, newton_start, refactored, attempt_at, unless_stuck, headed, fitted_attempt, attempt, Tried, says, end}
 use Rattle.rules.specs.laws.Said.{Cause, ends, asks, Tries}
 use Rattle.rules.specs.declared.stages.Aimed.{Aimed}
 use Rattle.rules.specs.declared.stages.Aimed.TheVariants.{At, AtEnd}
@@ -29,7 +29,7 @@ AimTells p AtEnd = Cause Success p
 AimTells p (At g a) = g.equal_steps ≤ p.pace.equal_steps
 
 aimed_tells : (p : Progress) (ws : List Float) → AimTells p (aimed p ws).is
-unfolding aimed cut_atEnd
+unfolding aimed cut_at_end
 aimed_tells p ws =
     either (λ (a : Left Aimed). AimTells p a.is) _
     (λ _. either (λ (a : Left Aimed). AimTells p a.is) _ (λ e. e) (λ _. omega arith))

@@ -14,7 +14,7 @@ use Rattle.rules.specs.Types.{FirstDerivative, FirstJacobian, StartDerivative, S
 use Rattle.rules.specs.State.{with_pace, with_aim, with_newton, with_x, with_order, changed, turn, ode+1, jac+1, start_asked, total+1, rejected+1, After, after}
 use Rattle.rules.specs.Newton.{converged}
 use Rattle.rules.specs.Factor.{factored}
-use Rattle.rules.specs.Attempt.{Tried, rejected, says, onward, factored_from, singular_from, aimed, cut_atEnd, fitted, must_factor, halved, newton_start, refactored, attempt_at, unless_stuck, headed, fitted_attempt, attempt, tries, main_loop}
+use Rattle.rules.specs.Attempt.{Tried, rejected, says, onward, factored_from, singular_from, aimed, cut_at_end, fitted, must_factor, halved, newton_start, refactored, attempt_at, unless_stuck, headed, fitted_attempt, attempt, tries, main_loop}
 use Rattle.rules.specs.Step.{is_guarded, error_fails, error_rejected, accepted_from, step_accepted, judged, newton_failed, newton_again, iterated, newton_replied}
 use Rattle.rules.specs.Reply.{jacobian_stored, started, hinit_asks, first_step, hinit_replied, modified, restarted, outdated, chosen, ordered, stepped, newton_turn, failed_turn, first_derivative, first_jacobian, restart_jacobian, step_jacobian, order_jacobian, start_noticed, step_noticed, replied}
 use Rattle.rules.specs.Beside.{Unread, beside, tried_beside, attempt_beside, call_beside}
@@ -88,7 +88,7 @@ module _ (u : Unread) where
   headed_blind p (At g a) ws q = unless_stuck_blind (with_aim (with_pace p g) a) ws q
 
   fitted_attempt_blind : (p : Progress) (ws q : List Float) → fitted_attempt (beside u p) ws q ≡ attempt_beside u (fitted_attempt p ws q)
-  unfolding fitted_attempt fitted aimed cut_atEnd
+  unfolding fitted_attempt fitted aimed cut_at_end
   fitted_attempt_blind p ws q =
       let r = with_pace p (fitted p ws).is in
       headed_blind r (aimed r (fitted p ws).ws).is _ q

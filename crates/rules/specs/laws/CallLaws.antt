@@ -11,7 +11,7 @@ use Rattle.rules.specs.Types.{Refusal, TooManyComponents, Refused, End, Success,
 use Rattle.rules.specs.State.{turn, After, after}
 use Rattle.rules.specs.Begin.{nothing, begin_of}
 use Rattle.rules.specs.GoOn.{go_on_of}
-use Rattle.rules.specs.Calls.{Configuration, beginning, beginning_checked, beginning_turn, beginning_passed, Call, going_on, going_onChecked, going_onTurn, going_onPassed}
+use Rattle.rules.specs.Calls.{Configuration, beginning, beginning_checked, beginning_turn, beginning_passed, Call, going_on, going_on_checked, going_on_turn, going_on_passed}
 use Rattle.rules.specs.declared.stages.Check.{Check}
 use Rattle.rules.specs.declared.stages.Check.TheVariants.{Refuse, Passed}
 
@@ -42,11 +42,11 @@ module _ (P : After Turn → Type 0) where
   pub going_on_cases :
       (run : Run) (call : Call) →
       ((why : Refusal) → P (after (record { answer = Refused why; run = run }) call.ws call.q)) →
-      (going_onChecked run call ≡ Passed → P (going_onPassed run call)) →
+      (going_on_checked run call ≡ Passed → P (going_on_passed run call)) →
       P (going_on run call)
   unfolding go_on_of
-  going_on_cases run call refused passed = by_check (going_onChecked run call) passed
+  going_on_cases run call refused passed = by_check (going_on_checked run call) passed
     where
-      by_check : (k : Check) → (k ≡ Passed → P (going_onPassed run call)) → P (going_onTurn run call k)
+      by_check : (k : Check) → (k ≡ Passed → P (going_on_passed run call)) → P (going_on_turn run call k)
       by_check (Refuse why) pass = refused why
       by_check Passed pass = pass refl

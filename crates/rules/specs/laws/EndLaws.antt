@@ -13,7 +13,7 @@ use Rattle.rules.specs.Types.{Progress, Turn, Awaited, Reply, Setting, Unset, Gi
 use Rattle.rules.specs.State.{with_pace, After, after, Left}
 use Rattle.rules.specs.Places.{need, row, y, y_new, y_predict, delta, f0, vector}
 use Rattle.rules.specs.Moves.{loaded}
-use Rattle.rules.specs.Attempt.{Tried, rejected, says, onward, attempt, predicted_all, fitted, fitted_attempt, aimed, cut_atEnd, headed, unless_stuck, halved, attempt_at, refactored, newton_start, end, tries, attempts_left, main_loop}
+use Rattle.rules.specs.Attempt.{Tried, rejected, says, onward, attempt, predicted_all, fitted, fitted_attempt, aimed, cut_at_end, headed, unless_stuck, halved, attempt_at, refactored, newton_start, end, tries, attempts_left, main_loop}
 use Rattle.rules.specs.Step.{error_rejected, judged, step_accepted, newton_failed, newton_again, iterated, newton_replied}
 use Rattle.rules.specs.Reply.{jacobian_stored, started, hinit_asks, first_step, hinit_replied, modified, restarted, chosen, ordered, stepped, newton_turn, failed_turn, first_derivative, first_jacobian, restart_jacobian, step_jacobian, order_jacobian, start_noticed, step_noticed, replied}
 use Rattle.rules.specs.Replies.{is_ended, values_want, word_wants, wants}
@@ -86,7 +86,7 @@ module _ (i : Type 0) (x : Float) (v : List Float) where
   AimTells p (At g a) = a.h_signed ≡ p.span.direction ⊗ g.h
 
   aimed_tells : (p : Progress) (ws : List Float) → AimTells p (aimed p ws).is
-  unfolding aimed cut_atEnd
+  unfolding aimed cut_at_end
   aimed_tells p ws =
       either (λ (a : Left Aimed). AimTells p a.is) _
       (λ _. either (λ (a : Left Aimed). AimTells p a.is) _ (λ e. inr e) (λ _. refl))

@@ -15,7 +15,7 @@ use Rattle.rules.specs.laws.GoOnLaws.{handed}
 use Rattle.rules.specs.laws.Moved.{Repivoted, as_before}
 use Rattle.rules.specs.laws.MovedLaws.{repivoted_twice}
 use Rattle.rules.specs.Answers.{is_refused}
-use Rattle.rules.specs.Calls.{Configuration, direction, beginning, beginning_checked, beginning_passed, Call, going_onChecked, going_onPassed}
+use Rattle.rules.specs.Calls.{Configuration, direction, beginning, beginning_checked, beginning_passed, Call, going_on_checked, going_on_passed}
 use Rattle.rules.specs.laws.CallLaws.{beginning_cases, going_on_cases}
 use Rattle.rules.specs.promises.RefusalLaws.{refused_call}
 use Rattle.rules.specs.History.{called, Exchange, begins, goes_on, is_refused_call}
@@ -102,8 +102,8 @@ module _ {c : Configuration} where
       }
 
   passed_kept :
-      {run : Run} {h : List Answer} → Kept c run h → (call : Call) → going_onChecked run call ≡ Passed →
-      let t = (going_onPassed run call).is in Kept c t.run (t.answer ∷ h)
+      {run : Run} {h : List Answer} → Kept c run h → (call : Call) → going_on_checked run call ≡ Passed →
+      let t = (going_on_passed run call).is in Kept c t.run (t.answer ∷ h)
   unfolding go_within
   passed_kept (idle none) call e =
       let some = (handed Ended nothing call.reply call.values call.ws call.q e).ready.room.some in absurd (omega (arith, some))

@@ -16,7 +16,7 @@ use Rattle.rules.specs.Replies.{awaits_newton}
 use Rattle.rules.specs.Checks.{limited, tolerances_checked, checked}
 use Rattle.rules.specs.Begin.{nothing, span_of, kept, ask_first, begin_run, begin_of}
 use Rattle.rules.specs.GoOn.{limits_damaged, steps_damaged, counters_damaged, damaged_above0, damaged, go_checked, go_within, go_on_of}
-use Rattle.rules.specs.Calls.{Configuration, beginning, beginning_checked, beginning_turn, Call, going_on, going_onChecked, going_onTurn, size, Untouched}
+use Rattle.rules.specs.Calls.{Configuration, beginning, beginning_checked, beginning_turn, Call, going_on, going_on_checked, going_on_turn, size, Untouched}
 use Rattle.rules.specs.History.{called}
 use Rattle.rules.specs.Beside.{Unread, guard_set_to, run_beside, call_beside}
 use Rattle.rules.specs.Guarding.{guarded_as, is_judged, error_norm, judges_nan, meets_nan}
@@ -72,22 +72,22 @@ quiet_by Ended p values ws e = tt
 
 module _ (run : Run) (call : Call) where
   -- past the checks it is not refused
-  pub passed_is_taken : going_onChecked run call ≡ Passed → is_refused (called run call).answer ≡ false
+  pub passed_is_taken : going_on_checked run call ≡ Passed → is_refused (called run call).answer ≡ false
   unfolding go_on_of
-  passed_is_taken e = subst (λ (k : Check). is_refused (going_onTurn run call k).is.answer ≡ false) (sym e) (passed_answers run call e)
+  passed_is_taken e = subst (λ (k : Check). is_refused (going_on_turn run call k).is.answer ≡ false) (sym e) (passed_answers run call e)
 
-  pub quiet : meets_nan run call ≡ false → going_onChecked run call ≡ Passed → Quiet run.awaited run.at call.values (take (need run.at.n) call.ws)
+  pub quiet : meets_nan run call ≡ false → going_on_checked run call ≡ Passed → Quiet run.awaited run.at call.values (take (need run.at.n) call.ws)
   unfolding meets_nan
   quiet e passed = quiet_by run.awaited run.at _ _ (rw (passed_is_taken passed) at e)
 
 module _ (u : Unread) (run : Run) (call : Call) where
-  checks_blind : going_onChecked (run_beside u run) call ≡ going_onChecked run call
+  checks_blind : going_on_checked (run_beside u run) call ≡ going_on_checked run call
   unfolding go_checked damaged damaged_above0 limits_damaged steps_damaged counters_damaged
   checks_blind = refl
 
   turn_blind :
       (k : Check) → (k ≡ Passed → Quiet run.awaited run.at call.values (take (need run.at.n) call.ws)) →
-      going_onTurn (run_beside u run) call k ≡ call_beside u (going_onTurn run call k)
+      going_on_turn (run_beside u run) call k ≡ call_beside u (going_on_turn run call k)
   unfolding go_within call_beside
   turn_blind (Refuse why) still = refl
   turn_blind Passed still =
@@ -96,7 +96,7 @@ module _ (u : Unread) (run : Run) (call : Call) where
 
   pub go_on_blind : meets_nan run call ≡ false → going_on (run_beside u run) call ≡ call_beside u (going_on run call)
   unfolding go_on_of
-  go_on_blind e = rw checks_blind (turn_blind (going_onChecked run call) (quiet run call e))
+  go_on_blind e = rw checks_blind (turn_blind (going_on_checked run call) (quiet run call e))
 
 -- ---- whether a call meets a NaN
 
@@ -104,9 +104,9 @@ abbrev refuses : Check → Bool
 refuses (Refuse why) = true
 refuses Passed = false
 
-refused_by : (run : Run) (call : Call) (k : Check) → going_onChecked run call ≡ k → is_refused (called run call).answer ≡ refuses k
+refused_by : (run : Run) (call : Call) (k : Check) → going_on_checked run call ≡ k → is_refused (called run call).answer ≡ refuses k
 unfolding go_on_of
-refused_by run call (Refuse why) e = ap (λ (k : Check). is_refused (going_onTurn run call k).is.answer) e
+refused_by run call (Refuse why) e = ap (λ (k : Check). is_refused (going_on_turn run call k).is.answer) e
 refused_by run call Passed e = passed_is_taken run call e
 
 -- does not turn on the guard

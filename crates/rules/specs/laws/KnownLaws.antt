@@ -19,7 +19,7 @@ use Rattle.rules.specs.Replies.{is_ended}
 use Rattle.rules.specs.Answers.{is_notice, is_refused}
 use Rattle.rules.specs.Begin.{kept, begin_ws, ask_first, begin_run}
 use Rattle.rules.specs.GoOn.{damaged, go_checked, go_within}
-use Rattle.rules.specs.Calls.{Configuration, beginning, beginning_checked, beginning_passed, Call, going_on, going_onChecked, going_onPassed, Untouched}
+use Rattle.rules.specs.Calls.{Configuration, beginning, beginning_checked, beginning_passed, Call, going_on, going_on_checked, going_on_passed, Untouched}
 use Rattle.rules.specs.History.{begun, called, Exchange, begins, goes_on, is_refused_call}
 use Rattle.rules.specs.Known.{told_x, told_y, given_x, given_y, is_modified, known_x, known_y, last_told_x, last_told_y, StillAsTold, LastReply, leaves, LeftAlone}
 use Rattle.rules.specs.laws.AsideLaws.{tolerances_keep}
@@ -69,7 +69,7 @@ leads_beyond t rest long l =
 -- ---- a call
 
 -- past the checks a run has not ended
-passed_going : (run : Run) (call : Call) → going_onChecked run call ≡ Passed → is_ended run.awaited ≡ false
+passed_going : (run : Run) (call : Call) → going_on_checked run call ≡ Passed → is_ended run.awaited ≡ false
 unfolding go_checked
 passed_going run call e = passed_test (is_ended run.awaited) _ _ (passed_rest (damaged run.awaited run.at) _ _ e)
 
@@ -81,7 +81,7 @@ module _ (run : Run) (call : Call) (x : Float) (v : List Float) where
   abbrev Answered : After Turn → Type 0
   Answered t = Leads (call.reply ≡ Interrupt) (given_x call.reply x) (given_y n call.reply call.values v) t
 
-  passed_means : Holds x v run.at (take (need n) call.ws) → going_onChecked run call ≡ Passed → Answered (going_onPassed run call)
+  passed_means : Holds x v run.at (take (need n) call.ws) → going_on_checked run call ≡ Passed → Answered (going_on_passed run call)
   unfolding go_within
   passed_means h e =
       let good = handed run.awaited run.at call.reply call.values call.ws call.q e in

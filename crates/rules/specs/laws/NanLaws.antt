@@ -21,7 +21,7 @@ use Rattle.rules.specs.Reply.{newton_turn, replied}
 use Rattle.rules.specs.Answers.{is_refused, is_step}
 use Rattle.rules.specs.Replies.{awaits_newton}
 use Rattle.rules.specs.GoOn.{go_within, go_on_of}
-use Rattle.rules.specs.Calls.{Call, going_onChecked, going_onTurn}
+use Rattle.rules.specs.Calls.{Call, going_on_checked, going_on_turn}
 use Rattle.rules.specs.History.{called}
 use Rattle.rules.specs.Guarding.{judged_norm, safety_at, rejected_by, rejected_after, is_judged, error_norm, meets_nan}
 use Rattle.rules.specs.declared.stages.Check.{Check}
@@ -140,15 +140,15 @@ module _ (run : Run) (call : Call) where
   abbrev room : List Float
   room = take (need run.at.n) call.ws
 
-  taken_passed : (k : Check) → going_onChecked run call ≡ k → is_refused (called run call).answer ≡ false → going_onChecked run call ≡ Passed
+  taken_passed : (k : Check) → going_on_checked run call ≡ k → is_refused (called run call).answer ≡ false → going_on_checked run call ≡ Passed
   unfolding go_on_of
   taken_passed (Refuse why) e t =
-      absurd (true≢false (sym (ap (λ (k : Check). is_refused (going_onTurn run call k).is.answer) e) ∙ t))
+      absurd (true≢false (sym (ap (λ (k : Check). is_refused (going_on_turn run call k).is.answer) e) ∙ t))
   taken_passed Passed e t = e
 
   -- what a call that meets a NaN is: past the checks, a Newton derivative's reply, with which Newton has converged
   pub record Met : Type 0 where
-    pub passed : going_onChecked run call ≡ Passed
+    pub passed : going_on_checked run call ≡ Passed
     pub waits : run.awaited ≡ NewtonDerivative
     pub ends_here : is_judged run.at call.values room ≡ true
     pub no_number : is_nan (error_norm run.at call.values room) ≡ true
@@ -169,5 +169,5 @@ module _ (run : Run) (call : Call) where
   pub met_tells : Met → called run call ≡ (newton_turn run.at call.values room call.q).is
   unfolding go_on_of go_within
   met_tells m =
-      ap (λ (k : Check). (going_onTurn run call k).is) m.passed
+      ap (λ (k : Check). (going_on_turn run call k).is) m.passed
       ∙ ap (λ (w : Awaited). (replied w run.at call.reply call.values room call.q).is) m.waits

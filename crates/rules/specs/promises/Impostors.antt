@@ -10,7 +10,7 @@ use Rattle.rules.specs.Calls.{Configuration, Call}
 use Rattle.rules.specs.promises.Solver.{Solver, Meets, Replied, Line, ours, later, transcript, transcript_same}
 use Rattle.rules.specs.promises.Demand3.{Counted, StartShown}
 use Rattle.rules.specs.promises.AnySolver.{ExchangeWith, every_solver_counts, every_solver_shows_the_start}
-use Rattle.rules.specs.promises.Printed.{nought, one, job, transcript_ofJob, replies, lines, fewer, fewer_lines, rising_lines, computed}
+use Rattle.rules.specs.promises.Printed.{nought, one, job, transcript_of_job, replies, lines, fewer, fewer_lines, rising_lines, computed}
 
 -- what stands past a transcript's end: neither a step nor an end, so that nothing is claimed of it
 abbrev no_line : Line
@@ -28,13 +28,13 @@ line_at k l = get_or l k no_line
 
 module _ {o : Solver} (m : Meets o) where
   -- the printed exchanges are those of every solver that meets the contracts
-  as_printed : transcript_ofJob o 100000 (replies nought) ≡ lines
+  as_printed : transcript_of_job o 100000 (replies nought) ≡ lines
   as_printed = transcript_same m (job 100000) _ _ (replies nought) ∙ computed.printed
 
-  as_printed_one_step : transcript_ofJob o 1 fewer ≡ fewer_lines
+  as_printed_one_step : transcript_of_job o 1 fewer ≡ fewer_lines
   as_printed_one_step = transcript_same m (job 1) _ _ fewer ∙ computed.one_step
 
-  as_rising : transcript_ofJob o 100000 (replies one) ≡ rising_lines
+  as_rising : transcript_of_job o 100000 (replies one) ≡ rising_lines
   as_rising = transcript_same m (job 100000) _ _ (replies one) ∙ computed.rising
 
 -- ---- a refuser of everything

@@ -14,7 +14,7 @@ use Rattle.rules.specs.Begin.{nothing, ask_first, begin_run}
 use Rattle.rules.specs.GoOn.{damaged, go_on_of}
 use Rattle.rules.specs.laws.GoOnLaws.{suited_passes, ended_refuses}
 use Rattle.rules.specs.Answers.{is_end, is_refused}
-use Rattle.rules.specs.Calls.{Configuration, beginning, Call, going_on, going_onTurn}
+use Rattle.rules.specs.Calls.{Configuration, beginning, Call, going_on, going_on_turn}
 use Rattle.rules.specs.laws.CallLaws.{beginning_cases, going_on_cases}
 use Rattle.rules.specs.promises.RefusalLaws.{passed_says, passed_answers, refused_call, refused_beginning}
 use Rattle.rules.specs.History.{begun, called, Exchange, begins, goes_on, is_refused_call}
@@ -123,7 +123,7 @@ module _ {c : Configuration} {run : Run} {a : Answer} {h : List Answer} (x : Exc
   no_refusal before s =
       let going : is_ended run.awaited ≡ false = sym (ended_is_told x) ∙ before in
       let passes = suited_passes run.awaited run.at call.reply _ _ _ (never_damaged x) going s.kind s.works s.asks s.enough in
-      subst (λ (k : Check). is_refused (going_onTurn run call k).is.answer ≡ false) (sym passes)
+      subst (λ (k : Check). is_refused (going_on_turn run call k).is.answer ≡ false) (sym passes)
       (passed_answers run call passes)
 
   -- a call that replies in kind to the answer told suits, and is not refused

@@ -17,7 +17,7 @@ use Rattle.rules.specs.Literals.{milli, micro}
 use Rattle.rules.specs.Tables.{kappa, gammas, alphas, error_consts}
 use Rattle.rules.specs.Moves.{copy_turn, copied, fill_turn, filled, load_turn, loaded}
 use Rattle.rules.specs.Predict.{predicted_turn, predicted, predict_turn, predict, scale_of, scale_turn, scaled, psi_sum_turn, psi_sum, psi_turn, psied}
-use Rattle.rules.specs.Norm.{square_of, square_turn, sum_ofSquares, rhs_norm}
+use Rattle.rules.specs.Norm.{square_of, square_turn, sum_of_squares, rhs_norm}
 use Rattle.rules.specs.Factor.{matrix_turn, matrix_cells, diagonal, matrix_row, matrix, factored}
 use Rattle.rules.specs.Newton.{residual_turn, residual, solved, correction, advance_turn, advanced, converged}
 use Rattle.rules.specs.Judge.{safety_of, weigh_turn, weighed, newest_turn, newest, add_next_turn, add_next, summed_turn, summed, coeff, coeff_turn, coeffs, cont_turn, prepared, accepted_ws}
@@ -83,8 +83,8 @@ automatic_job = job_with 100000 Unset
 abbrev transcript_of : Solver → Configuration → List Replied → List Line
 transcript_of o c replies = transcript o c (replicate 35 nan) (replicate 8 nan) replies
 
-abbrev pub transcript_ofJob : Solver → ℕ → List Replied → List Line
-transcript_ofJob o steps replies = transcript_of o (job steps) replies
+abbrev pub transcript_of_job : Solver → ℕ → List Replied → List Line
+transcript_of_job o steps replies = transcript_of o (job steps) replies
 
 abbrev value : Float → Replied
 value v = (Values, v ∷ [])
@@ -168,14 +168,14 @@ NoNan g (r ∷ replies) =
 -- ---- the definitions compute all of it
 
 pub record Computed : Type 0 where
-  pub printed : transcript_ofJob ours 100000 (replies nought) ≡ lines
-  pub one_step : transcript_ofJob ours 1 fewer ≡ fewer_lines
-  pub rising : transcript_ofJob ours 100000 (replies one) ≡ rising_lines
+  pub printed : transcript_of_job ours 100000 (replies nought) ≡ lines
+  pub one_step : transcript_of_job ours 1 fewer ≡ fewer_lines
+  pub rising : transcript_of_job ours 100000 (replies one) ≡ rising_lines
   pub automatic : transcript_of ours automatic_job started_by_itself ≡ automatic_lines
   pub no_nan : NoNan (beginning (job 100000) (replicate 35 nan) (replicate 8 nan)) (replies nought)
 
 pub computed : Computed
-unfolding later if◌then◌else◌ turns loop abs_of signum_of min_of max_of sqrt_of sized_of single_of lu_decomp_of inside_of divided_of solved_of lin_solve_of gammas alphas error_consts copy_turn copied fill_turn filled load_turn loaded predicted_turn predicted predict_turn predict scale_of scale_turn scaled psi_sum_turn psi_sum psi_turn psied square_of square_turn sum_ofSquares rhs_norm matrix_turn matrix_cells diagonal matrix_row matrix factored residual_turn residual solved correction advance_turn advanced converged safety_of weigh_turn weighed newest_turn newest add_next_turn add_next summed_turn summed coeff coeff_turn coeffs cont_turn prepared accepted_ws to_hmax to_hmin aimed newton_start must_factor refactored predicted_all attempt_at unless_stuck fitted fitted_attempt attempt tries main_loop step_accepted error_fails error_ws judged iterated newton_replied jacobian_stored first_turn first_difference differences squares_turn squares raw_guess first_guess guess euler_turn euler second_turn second h1 final_guess hinit within_span started hinit_asks first_step hinit_replied stepped newton_turn first_derivative first_jacobian negative limited tolerances_checked checked span_of kept begin_ws ask_first begin_run begin_of pivot_outside limits_damaged steps_damaged counters_damaged damaged_above0 damaged go_checked go_within go_on_of meets_nan is_nan of_bits of_int add sub mul div neg eq lt le ne kappa
+unfolding later if◌then◌else◌ turns loop abs_of signum_of min_of max_of sqrt_of sized_of single_of lu_decomp_of inside_of divided_of solved_of lin_solve_of gammas alphas error_consts copy_turn copied fill_turn filled load_turn loaded predicted_turn predicted predict_turn predict scale_of scale_turn scaled psi_sum_turn psi_sum psi_turn psied square_of square_turn sum_of_squares rhs_norm matrix_turn matrix_cells diagonal matrix_row matrix factored residual_turn residual solved correction advance_turn advanced converged safety_of weigh_turn weighed newest_turn newest add_next_turn add_next summed_turn summed coeff coeff_turn coeffs cont_turn prepared accepted_ws to_hmax to_hmin aimed newton_start must_factor refactored predicted_all attempt_at unless_stuck fitted fitted_attempt attempt tries main_loop step_accepted error_fails error_ws judged iterated newton_replied jacobian_stored first_turn first_difference differences squares_turn squares raw_guess first_guess guess euler_turn euler second_turn second h1 final_guess hinit within_span started hinit_asks first_step hinit_replied stepped newton_turn first_derivative first_jacobian negative limited tolerances_checked checked span_of kept begin_ws ask_first begin_run begin_of pivot_outside limits_damaged steps_damaged counters_damaged damaged_above0 damaged go_checked go_within go_on_of meets_nan is_nan of_bits of_int add sub mul div neg eq lt le ne kappa
 computed =
     record {
       printed = refl;

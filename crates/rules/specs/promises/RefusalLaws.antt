@@ -11,15 +11,15 @@ use Rattle.rules.specs.State.{turn, After, after}
 use Rattle.rules.specs.Begin.{nothing, ask_first, begin_run}
 use Rattle.rules.specs.GoOn.{go_within}
 use Rattle.rules.specs.laws.GoOnLaws.{handed}
-use Rattle.rules.specs.Calls.{Configuration, beginning, Call, going_on, going_onChecked, going_onPassed}
+use Rattle.rules.specs.Calls.{Configuration, beginning, Call, going_on, going_on_checked, going_on_passed}
 use Rattle.rules.specs.laws.CallLaws.{beginning_cases, going_on_cases}
 use Rattle.rules.specs.laws.QuestionLaws.{Says}
 use Rattle.rules.specs.laws.SpeakLaws.{replied_speaks}
 use Rattle.rules.specs.declared.stages.Check.TheVariants.{Passed}
 
-module _ (run : Run) (call : Call) (e : going_onChecked run call ≡ Passed) where
+module _ (run : Run) (call : Call) (e : going_on_checked run call ≡ Passed) where
   -- past the checks a call says what its answer tells, and waits for what it asks for
-  pub passed_says : let t = (going_onPassed run call).is in Says run.at.n t (written run.at.n t.answer)
+  pub passed_says : let t = (going_on_passed run call).is in Says run.at.n t (written run.at.n t.answer)
   unfolding go_within
   passed_says =
       let good = handed run.awaited run.at call.reply call.values call.ws call.q e in
@@ -29,7 +29,7 @@ module _ (run : Run) (call : Call) (e : going_onChecked run call ≡ Passed) whe
       rw (s.says call.q good.ready.asks) (refl, s.fits.1, s.fits.2, s.fits.3)
 
   -- so past the checks nothing refuses
-  pub passed_answers : is_refused (going_onPassed run call).is.answer ≡ false
+  pub passed_answers : is_refused (going_on_passed run call).is.answer ≡ false
   passed_answers = passed_says.2
 
 -- a call that is refused leaves the workspace and the question slice, and hands back the state that it was given

@@ -19,7 +19,7 @@ use Rattle.rules.specs.Replies.{is_ended, wants}
 use Rattle.rules.specs.Checks.{entry, reaches, negative, zero_step, limited, or_else, tolerances_checked, checked}
 use Rattle.rules.specs.Begin.{kept, nothing, ask_first, begin_run, begin_of}
 use Rattle.rules.specs.GoOn.{damaged, count_checked, go_checked, go_on_of}
-use Rattle.rules.specs.Calls.{Configuration, beginning, beginning_checked, beginning_turn, Call, going_on, going_onChecked, going_onTurn, going_onPassed}
+use Rattle.rules.specs.Calls.{Configuration, beginning, beginning_checked, beginning_turn, Call, going_on, going_on_checked, going_on_turn, going_on_passed}
 use Rattle.rules.specs.laws.CallLaws.{beginning_cases}
 use Rattle.rules.specs.promises.RefusalLaws.{passed_answers}
 use Rattle.rules.specs.declared.stages.Check.{Check}
@@ -236,11 +236,11 @@ no_refusal_tells_nothing (Step old new start h) e = refl
 no_refusal_tells_nothing (End status h) e = refl
 no_refusal_tells_nothing (Refused why) e = absurd (true≢false e)
 
-go_tells : (run : Run) (call : Call) (k : Check) → going_onChecked run call ≡ k → refusal (going_onTurn run call k) ≡ tells k
-go_tells run call Passed e = no_refusal_tells_nothing (going_onPassed run call).is.answer (passed_answers run call e)
+go_tells : (run : Run) (call : Call) (k : Check) → going_on_checked run call ≡ k → refusal (going_on_turn run call k) ≡ tells k
+go_tells run call Passed e = no_refusal_tells_nothing (going_on_passed run call).is.answer (passed_answers run call e)
 go_tells run call (Refuse why) e = refl
 
-go_checks_tell : (run : Run) (call : Call) → tells (going_onChecked run call) ≡ first_of (go_table run call)
+go_checks_tell : (run : Run) (call : Call) → tells (going_on_checked run call) ≡ first_of (go_table run call)
 unfolding go_checked
 go_checks_tell run call =
     choice_tells tells (damaged run.awaited run.at) _ _ refl
@@ -249,4 +249,4 @@ go_checks_tell run call =
 
 pub going_on_is_refused_by_the_table : (run : Run) (call : Call) → refusal_of (going_on run call).is.answer ≡ first_of (go_table run call)
 unfolding go_on_of
-going_on_is_refused_by_the_table run call = go_tells run call (going_onChecked run call) refl ∙ go_checks_tell run call
+going_on_is_refused_by_the_table run call = go_tells run call (going_on_checked run call) refl ∙ go_checks_tell run call

@@ -21,7 +21,7 @@ use Rattle.rules.specs.Guarding.{guarded_as}
 use Rattle.rules.specs.promises.Guarded.{Abreast, both_begin, both_go_on, abreast_agrees, same_until_a_nan}
 use Rattle.rules.specs.promises.Solver.{Solver, Meets, ours, Line, line, Replied, next, transcript_same}
 use Rattle.rules.specs.promises.AnySolver.{ExchangeWith, has_begun, exchange_is_ours, every_solver_counts, last_of, answers_of, AllTaken, transcript_is_exchanged, last_line, last_is_told}
-use Rattle.rules.specs.promises.Printed.{nought, half, one, job, transcript_ofJob, replies, lines, NoNan, computed}
+use Rattle.rules.specs.promises.Printed.{nought, half, one, job, transcript_of_job, replies, lines, NoNan, computed}
 use Rattle.rules.specs.promises.Impostors.{line_at, Miscounts, no_miscounter}
 
 pub ours_meets : Meets ours
@@ -53,7 +53,7 @@ pub record PrintedExchange (o : Solver) : Type 0 where
 pub printed_exchange : {o : Solver} → Meets o → PrintedExchange o
 printed_exchange {o} m =
     let first = o.begins (job 100000) (replicate 35 nan) (replicate 8 nan) in
-    let as_printed : transcript_ofJob o 100000 (replies nought) ≡ lines =
+    let as_printed : transcript_of_job o 100000 (replies nought) ≡ lines =
     transcript_same m (job 100000) _ _ (replies nought) ∙ computed.printed in
     let taken = subst AllTaken (sym as_printed) (refl, (refl, (refl, (refl, (refl, (refl, (refl, (refl, tt)))))))) in
     let run = (last_of o first (replies nought)).is.run in
@@ -84,9 +84,9 @@ twins_stay {c} {g} {h} t (r ∷ replies) =
     let ones = replicate (length g.q) one in
     let room' = subst (λ (u : Turn). need u.run.at.n ≤ length h.ws) a.turns a.room' in
     let alike : Alike (size g) g.q ones = ap (λ (k : ℕ). ltb k (8 * size g)) (sym (length-replicate (length g.q) one)) in
-    twins_stay (go_on r.0 r.1 g.ws h.ws g.q ones t (a.room, refl) (room', refl) alike) replies
+    twins_stay {c = c} {g = next ours g r} {h = go_on_of h.is.run r.0 r.1 h.ws ones} (go_on r.0 r.1 g.ws h.ws g.q ones t (a.room, refl) (room', refl) alike) replies
 
--- the first begins with 35 and 8 numbers that are NaN, as `transcript_ofJob` does; the second with 40 and 8 ones
+-- the first begins with 35 and 8 numbers that are NaN, as `transcript_of_job` does; the second with 40 and 8 ones
 abbrev pub first_begun : After Turn
 first_begun = beginning (job 100000) (replicate 35 nan) (replicate 8 nan)
 
@@ -125,7 +125,7 @@ abreast_stay {c} {g} {h} b (r ∷ replies) none =
     let ones = replicate (length g.q) one in
     let room' = subst (λ (u : Turn). need u.run.at.n ≤ length h.ws) a.turns a.room' in
     let alike : Alike (size g) g.q ones = ap (λ (k : ℕ). ltb k (8 * size g)) (sym (length-replicate (length g.q) one)) in
-    abreast_stay (both_go_on r.0 r.1 g.ws h.ws g.q ones b (a.room, refl) (room', refl) alike none.0) replies none.1
+    abreast_stay {c = c} {g = next ours g r} {h = go_on_of h.is.run r.0 r.1 h.ws ones} (both_go_on r.0 r.1 g.ws h.ws g.q ones b (a.room, refl) (room', refl) alike none.0) replies none.1
 
 abbrev pub guarded_begun : After Turn
 guarded_begun = beginning (guarded_as true (job 100000)) (replicate 40 one) (replicate 8 one)

@@ -1,17 +1,17 @@
 -- `aim::cut_at_end`: by the test of its definition. Assumes nothing.
 use borrow.Author.Rules.{rules}
 use Rattle.loops.specs.Choice.{if◌then◌else◌}
-use Rattle.rules.specs.Attempt.{cut_atEnd}
+use Rattle.rules.specs.Attempt.{cut_at_end}
 use Rattle.bdf.proofs.aim.cut_at_end.Statement.{statement}
 use Rattle.bdf.proofs.aim.cut_at_end.Tie as tie
 
 returns : tie.Need-returns
-unfolding cut_atEnd if◌then◌else◌
+unfolding cut_at_end if◌then◌else◌
 returns c =
     λ pivot. rw (← c.before.abs.ensures, c.if1.true)
 
 returns-2 : tie.Need-returns-2
-unfolding cut_atEnd if◌then◌else◌
+unfolding cut_at_end if◌then◌else◌
 returns-2 c =
     λ pivot. rw (← c.before.before.before.before.before.before.before.before.before.abs.ensures, c.before.before.before.before.before.before.before.before.if1.false, c.before.changed.ensures, c.aim-of.ensures, c.before.before.before.before.before.rescale-d.ensures)
 

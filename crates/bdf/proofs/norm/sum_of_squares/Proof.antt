@@ -3,7 +3,7 @@ use Rattle.core.specs.Prelude.{◌-◌}
 use native.Mathlib.Omega.{arith}
 use borrow.Author.Rules.{rules}
 use Rattle.loops.specs.laws.Turned.{Turned, turn_none, turn_more, turn_all}
-use Rattle.rules.specs.Norm.{square_turn, sum_ofSquares}
+use Rattle.rules.specs.Norm.{square_turn, sum_of_squares}
 use Rattle.bdf.proofs.norm.sum_of_squares.Statement.{statement}
 use Rattle.bdf.proofs.norm.sum_of_squares.Tie as tie
 
@@ -27,7 +27,7 @@ unfolding square_turn
 loop-again c = turn_more c.before.before.before.before.loop.invariant (omega arith) (rw (c.square.ensures, c.before.before.get.ensures, c.before.get2.ensures))
 
 returns : tie.Need-returns invariant-loop decreases-loop
-unfolding sum_ofSquares
+unfolding sum_of_squares
 returns c = turn_all c.before.loop.invariant c.loop-test.false
 
 pub sum_of_squares_spec : {M : Type 1} → statement M

@@ -11,7 +11,7 @@ use borrow.Author.Rules.{rules}
 use borrow.Author.Tests.{not-true, not-false}
 use Rattle.loops.specs.laws.ChoiceLaws.{when_true, when_false}
 use Rattle.text.specs.laws.Fronts.{front}
-use Rattle.rules.specs.Answers.{is_question_orNotice}
+use Rattle.rules.specs.Answers.{is_question_or_notice}
 use Rattle.rules.specs.State.{After, after}
 use Rattle.listing.specs.Types.{Turn}
 use Rattle.listing.specs.Pages.{due_of, begun_with}
@@ -25,11 +25,11 @@ module _ (turn : Turn) (ws q b a : List Float) {l : Listing} {g : After Turn} (b
   opened_so m e =
       subst (λ (h : After Turn). ◌≡◌ {A = After Listing × List Float} (after l ws q, m) (begun_with h b a)) begun (rw (due, e))
 
-  not_asked : is_question_orNotice turn.answer ≡ false → ◌≡◌ {A = After Listing × List Float} (after l ws q, a) (begun_with g b a)
+  not_asked : is_question_or_notice turn.answer ≡ false → ◌≡◌ {A = After Listing × List Float} (after l ws q, a) (begun_with g b a)
   not_asked none = opened_so a (sym (when_false b a none))
 
   asked :
-      is_question_orNotice turn.answer ≡ true → length b ≡ length a → {m : List Float} → m ≡ b ++ drop (length b) a →
+      is_question_or_notice turn.answer ≡ true → length b ≡ length a → {m : List Float} → m ≡ b ++ drop (length b) a →
       ◌≡◌ {A = After Listing × List Float} (after l ws q, m) (begun_with g b a)
   asked some same {m} copied = opened_so m (copied ∙ rw (same, drop-length a) (append-nil b) ∙ sym (when_true b a some))
 
