@@ -1,17 +1,15 @@
-// A page of text to standard output: written out where the next line may have no room, and at the end.
+// A page of text to a writer: written out where the next line may have no room, and at the end.
 // Afterwards the page is begun anew. A place that is Full says that a write failed: from then on nothing is written.
-//
-// Nothing can be said here of what is written: no contract reaches beyond the program. What is said is which place comes back.
 #![tactic(auto)]
 
 ghost use Rattle.std.specs.Prelude.{length};
 ghost use Rattle.output.specs.Output.{Flushed, MadeRoomy};
 
-use libc::STDOUT_FILENO;
+use std::io::Write;
 use text::Place;
 
 // Writes out what stands before the place. Full where that lies beyond the page, or the write failed.
-pub fn flush(out: &[u8], place: Place) -> Place
+pub fn flush<W: Write>(to: &mut W, out: &[u8], place: Place) -> Place
     ensures { Flushed (length out.now) place result }
 {
     match place {
@@ -19,7 +17,7 @@ pub fn flush(out: &[u8], place: Place) -> Place
             if at > out.len() {
                 return Place::Full;
             }
-            if io::write_all(STDOUT_FILENO, &out[..at]) {
+            if to.write_all(&out[..at]).is_ok() {
                 return Place::At(0);
             }
             Place::Full
@@ -29,7 +27,7 @@ pub fn flush(out: &[u8], place: Place) -> Place
 }
 
 // Before a line of at most `line` bytes: the place as it is where they have room, otherwise flushed.
-pub fn roomy(out: &[u8], place: Place, line: usize) -> Place
+pub fn roomy<W: Write>(to: &mut W, out: &[u8], place: Place, line: usize) -> Place
     ensures { MadeRoomy (length out.now) line place result }
 {
     match place {
@@ -38,7 +36,7 @@ pub fn roomy(out: &[u8], place: Place, line: usize) -> Place
                 return Place::Full;
             }
             if out.len() - at < line {
-                return flush(out, place);
+                return flush(to, out, place);
             }
             place
         }

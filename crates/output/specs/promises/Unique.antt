@@ -1,11 +1,10 @@
 -- The contracts of this crate leave no choice but what became of the write: two outcomes that meet one of them, from the same call
 -- and with writes that both were done or both failed, are the same place. And where there is room no write is asked.
-use Rattle.std.specs.Prelude.{◌≡◌, Bool, true, ℕ, ◌+◌, ◌≤◌}
+use Rattle.std.specs.Prelude.{◌≡◌, Bool, ℕ, ◌+◌, ◌≤◌}
 use Rattle.std.proofs.Common.{sym, ap, ◌∙◌, le-leb}
-use Rattle.loops.specs.Choice.{if◌then◌else◌}
 use Rattle.loops.specs.laws.ChoiceLaws.{when_true}
 use Rattle.text.specs.declared.page.Place.{Place}
-use Rattle.text.specs.declared.page.Place.TheVariants.{At, Full}
+use Rattle.text.specs.declared.page.Place.TheVariants.{At}
 use Rattle.output.specs.Output.{flushed, made_roomy, Flushed, MadeRoomy}
 
 pub flush_unique : (len : ℕ) (place : Place) {r s : Place} (m : Flushed len place r) (o : Flushed len place s) → m.written ≡ o.written → r ≡ s

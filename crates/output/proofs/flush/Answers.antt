@@ -1,10 +1,8 @@
 -- `output::flush` meets its contract: beyond the page, on a full one and after a failed write the page is full, otherwise it begins
 -- anew. What is written is as long as the place says, since the place lies within. Assumes nothing.
-use mathlib.Core.Path.{◌≡◌, refl, sym, ap}
+use mathlib.Core.Path.{◌≡◌, refl, sym}
 use mathlib.Core.Bool.{Bool, true, false}
 use Prim.Native.Nat.{ℕ, ◌≤◌, ◌<◌}
-use lib.Dec.{leb}
-use borrow.Author.Rules.{rules}
 use borrow.Author.Tests.{le-leb, lt-leb}
 use Rattle.loops.specs.Choice.{if◌then◌else◌}
 use Rattle.loops.specs.laws.ChoiceLaws.{when_true, when_false}
@@ -12,8 +10,7 @@ use Rattle.text.specs.laws.Fronts.{front}
 use Rattle.text.specs.declared.page.Place.{Place}
 use Rattle.text.specs.declared.page.Place.TheVariants.{At, Full}
 use Rattle.output.specs.Output.{flushed, Flushed}
-use Rattle.output.proofs.flush.Statement.{statement}
-use Rattle.output.proofs.flush.Tie as tie
+use Rattle.output.proofs.flush.Goals as goal
 
 beyond : (len at : ℕ) {place : Place} → place ≡ At at → len < at → Flushed len place Full
 unfolding flushed
@@ -36,30 +33,17 @@ stays_full : (len : ℕ) {place : Place} → place ≡ Full → Flushed len plac
 unfolding flushed
 stays_full len p = record { written = false; is = rw p refl }
 
-returns : tie.Need-returns
-returns c = beyond _ _ c.before.before.place.given.1 c.if1.true
+pub returns-then-at-out : goal.returns-then-at-out
+returns-then-at-out g c = beyond _ _ c.in-At.is c.if-at-out.true
 
-slice-aggregate-write-all : tie.Need-slice-aggregate-write-all
-slice-aggregate-write-all c = front _ _ c.before.if1.false
+pub slice_bounds-write_all-end : goal.slice_bounds-write_all-end
+slice_bounds-write_all-end g c = front _ _ c.if-at-out.false
 
-returns-2 : tie.Need-returns-2
-returns-2 c = begun_anew _ _ c.before.before.before.before.before.place.given.1 c.before.before.before.if1.false
+pub returns-then-is_ok : goal.returns-then-is_ok
+returns-then-is_ok g c = begun_anew _ _ c.in-At.is c.if-at-out.false
 
-returns-3 : tie.Need-returns-3
-returns-3 c = failed _ _ c.before.before.before.before.before.place.given.1 c.before.before.before.if1.false
+pub returns-else-is_ok : goal.returns-else-is_ok
+returns-else-is_ok g c = failed _ _ c.in-At.is c.if-at-out.false
 
-returns-4 : tie.Need-returns-4
-returns-4 c = stays_full _ c.enum_told.given.1
-
-pub flush_spec : {M : Type 1} → statement M
-flush_spec =
-    tie.close
-    (tie.spec
-    (λ c. search rules)
-    returns
-    slice-aggregate-write-all
-    (λ c κs. search rules)
-    returns-2
-    (λ c. search rules)
-    returns-3
-    returns-4)
+pub returns-in-Full : goal.returns-in-Full
+returns-in-Full g c = stays_full _ c.in-Full.is

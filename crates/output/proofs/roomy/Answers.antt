@@ -4,14 +4,12 @@ use mathlib.Core.Path.{◌≡◌, refl, sym, ◌∙◌}
 use mathlib.Core.Bool.{false}
 use Prim.Native.Nat.{ℕ, ◌+◌, ◌≤◌, ◌<◌, ◌-◌}
 use native.Mathlib.Omega.{arith}
-use borrow.Author.Rules.{rules}
 use borrow.Author.Tests.{le-leb, lt-leb}
 use Rattle.loops.specs.laws.ChoiceLaws.{when_true, when_false}
 use Rattle.text.specs.declared.page.Place.{Place}
 use Rattle.text.specs.declared.page.Place.TheVariants.{At, Full}
 use Rattle.output.specs.Output.{flushed, made_roomy, Flushed, MadeRoomy}
-use Rattle.output.proofs.roomy.Statement.{statement}
-use Rattle.output.proofs.roomy.Tie as tie
+use Rattle.output.proofs.roomy.Goals as goal
 
 stays : (len line at : ℕ) {place : Place} → place ≡ At at → at ≤ len → line ≤ len - at → MadeRoomy len line place (At at)
 unfolding made_roomy
@@ -36,27 +34,14 @@ stays_full : (len line : ℕ) {place : Place} → place ≡ Full → MadeRoomy l
 unfolding made_roomy
 stays_full len line p = record { written = false; is = rw p refl }
 
-returns : tie.Need-returns
-returns c = beyond _ _ _ c.before.before.place.given.1 c.if1.true
+pub returns-then-at-out : goal.returns-then-at-out
+returns-then-at-out g c = beyond _ _ _ c.in-At.is c.if-at-out.true
 
-returns-2 : tie.Need-returns-2
-returns-2 c = too_long _ _ _ c.before.before.before.before.place.given.1 c.before.before.if1.false c.before.if2.true c.flush.ensures
+pub returns-then-out-at : goal.returns-then-out-at
+returns-then-out-at g c = too_long _ _ _ c.in-At.is c.if-at-out.false c.if-out-at.true c.flush.ensures
 
-returns-3 : tie.Need-returns-3
-returns-3 c = stays _ _ _ c.before.before.before.place.given.1 c.before.if1.false c.if2.false
+pub returns-else-out-at : goal.returns-else-out-at
+returns-else-out-at g c = stays _ _ _ c.in-At.is c.if-at-out.false c.if-out-at.false
 
-returns-4 : tie.Need-returns-4
-returns-4 c = stays_full _ _ c.enum_told.given.1
-
-pub roomy_spec : {M : Type 1} → statement M
-roomy_spec =
-    tie.close
-    (tie.spec
-    (λ c. search rules)
-    returns
-    (λ c. search rules)
-    (λ c κs. search rules)
-    returns-2
-    (λ c. search rules)
-    returns-3
-    returns-4)
+pub returns-in-Full : goal.returns-in-Full
+returns-in-Full g c = stays_full _ _ c.in-Full.is
