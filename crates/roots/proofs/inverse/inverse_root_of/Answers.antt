@@ -15,8 +15,8 @@ use Rattle.roots.proofs.inverse.inverse_root_of.Goals as goal
 asked : {k b digits places : ℕ} → 1 ≤ k → k ≤ 7 → 0 < b → Scaled b digits places → Asked k digits places
 asked from upto some s = record { from = from; upto = upto; some = s.some some; small = s.small; low = s.low }
 
-held : {x : Float} → fits binary64 x ≡ true → T (fits binary64 x)
-held f = subst T (sym f) tt
+held : (x : Float) → fits binary64 x ≡ true → T (fits binary64 x)
+held x f = subst T (sym f) tt
 
 pub returns-then-x : goal.returns-then-x
 returns-then-x c = nan_root _ _ c.if-x.true
@@ -32,11 +32,11 @@ float_to_bits-b c = is_number _ c.if-x.false
 
 pub returns-then-b-ge-INFINITY_BITS : goal.returns-then-b-ge-INFINITY_BITS
 returns-then-b-ge-INFINITY_BITS c =
-    infinity_root _ _ (held c.well_formed.1.0.1) c.if-x.false c.if-x-2.false c.if-x-3.false c.if-b-ge-INFINITY_BITS.true
+    infinity_root _ _ (held _ c.well_formed.1.0.1) c.if-x.false c.if-x-2.false c.if-x-3.false c.if-b-ge-INFINITY_BITS.true
 
 pub pattern_of_root-requires : goal.pattern_of_root-requires
 pattern_of_root-requires c =
-    asked c.requires.0 c.requires.1 (pattern_above_zero _ (held c.well_formed.1.0.1) c.if-x-2.false) c.units_of-units.ensures
+    asked c.requires.0 c.requires.1 (pattern_above_zero _ (held _ c.well_formed.1.0.1) c.if-x-2.false) c.units_of-units.ensures
 
 pub float_from_bits-result : goal.float_from_bits-result
 float_from_bits-result c =
@@ -45,4 +45,4 @@ float_from_bits-result c =
 pub returns : goal.returns
 returns c =
     ap (of_bits binary64) c.pattern_of_root.ensures
-    ∙ finite_root _ _ _ _ (held c.well_formed.1.0.1) c.if-x.false c.if-x-2.false c.if-x-3.false c.if-b-ge-INFINITY_BITS.false c.units_of-units.ensures
+    ∙ finite_root _ _ _ _ (held _ c.well_formed.1.0.1) c.if-x.false c.if-x-2.false c.if-x-3.false c.if-b-ge-INFINITY_BITS.false c.units_of-units.ensures
