@@ -37,6 +37,7 @@ SPECIAL = {
     "products-turn": "products_turn_lem",
     "solution-told": "solution_told_lem",
     "start-asked": "start_asked_lem",
+    "stage-by-rows": "stage_by_rows_lem",
     "start-line": "start_line_lem",
 }
 

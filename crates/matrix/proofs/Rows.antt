@@ -133,9 +133,9 @@ module _ (n m k : ℕ) (small : k < n) where
         (λ i i' from order below s. loop_pass (k + 1) n (scales i') (cell_turn n k i) s
         (λ j from' below'. scale_passes_cell n k small t i i' j (omega arith) (omega arith) below' (λ e. omega arith))))
 
-  pub stage_by_rows : (a : List Float) → Square n a → stage_by_rows n m k a ≡ stage_of n m k a
+  pub stage_by_rows_lem : (a : List Float) → Square n a → stage_by_rows n m k a ≡ stage_of n m k a
   unfolding stage_by_rows stage_of
-  stage_by_rows a s =
+  stage_by_rows_lem a s =
       let t = one ⊘ cell n a m k in
       let swapped = exchanges k a in
       let scaled = loop (k + 1) n (scales t) swapped in

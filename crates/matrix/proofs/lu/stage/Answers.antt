@@ -10,13 +10,13 @@ use Rattle.loops.specs.Loop.{loop}
 use Rattle.loops.specs.Arithmetic.{◌⊘◌, one}
 use Rattle.matrix.specs.Lu.{exchanged_of, stage_of}
 use Rattle.matrix.specs.Rows.{row_turn, stage_by_rows}
-use Rattle.matrix.proofs.Rows.{stage_by_rows}
+use Rattle.matrix.proofs.Rows.{stage_by_rows_lem}
 use Rattle.matrix.proofs.lu.stage.Goals as goal
 
 in_order : (n m k : ℕ) (a b d : List Float) {pivot : Float} → k < n → length a ≡ n * n → pivot ≡ cell n a m k → b ≡ loop k n (exchanged_of n m k) a
     → d ≡ loop (k + 1) n (row_turn n k (one ⊘ pivot)) b → d ≡ stage_of n m k a
 unfolding stage_by_rows
-in_order n m k a b d h s e₁ e₂ e₃ = e₃ ∙ rw (e₂, e₁) (stage_by_rows n m k h a s)
+in_order n m k a b d h s e₁ e₂ e₃ = e₃ ∙ rw (e₂, e₁) (stage_by_rows_lem n m k h a s)
 
 pub returns : goal.returns
 returns c = let asked = c.requires in

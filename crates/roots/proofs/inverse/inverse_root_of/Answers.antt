@@ -1,8 +1,9 @@
 -- `roots::inverse::inverse_root_of` meets its contract: each test settles one kind of double, and what is left is finite and above 0. Assumes nothing.
-use mathlib.Core.Path.{sym, ap, ◌∙◌, subst}
+use mathlib.Core.Bool.{true}
+use mathlib.Core.Path.{◌≡◌, sym, ap, ◌∙◌, subst}
 use Prim.Native.Nat.{ℕ, ◌≤◌, ◌<◌}
 use lib.Dec.{T}
-use lib.Ieee.{binary64, fits, of_bits}
+use lib.Ieee.{Float, binary64, fits, of_bits}
 use Rattle.roots.specs.laws.RootLaws.{rounded_in_range}
 use Rattle.roots.specs.Scaled.{Scaled, Asked}
 use Rattle.roots.proofs.Number.{pattern_is_number}
@@ -14,8 +15,8 @@ use Rattle.roots.proofs.inverse.inverse_root_of.Goals as goal
 asked : {k b digits places : ℕ} → 1 ≤ k → k ≤ 7 → 0 < b → Scaled b digits places → Asked k digits places
 asked from upto some s = record { from = from; upto = upto; some = s.some some; small = s.small; low = s.low }
 
-held : (c : tie.Start) → T (fits binary64 c.args.x)
-held c = subst T (sym c.well-formed.1.0.1) tt
+held : (x : Float) → fits binary64 x ≡ true → T (fits binary64 x)
+held x f = subst T (sym f) tt
 
 pub returns-then-x : goal.returns-then-x
 returns-then-x c = nan_root _ _ c.if-x.true
@@ -30,22 +31,18 @@ pub float_to_bits-b : goal.float_to_bits-b
 float_to_bits-b c = is_number _ c.if-x.false
 
 pub returns-then-b-ge-INFINITY_BITS : goal.returns-then-b-ge-INFINITY_BITS
-returns-then-b-ge-INFINITY_BITS c = let third = c.before in
-    let first = third.before.before in
-    infinity_root _ _ (held first.before) first.if1.false third.before.if2.false third.if3.false c.if-b-ge-INFINITY_BITS.true
+returns-then-b-ge-INFINITY_BITS c =
+    infinity_root _ _ (held _ c.well_formed.1.0.1) c.if-x.false c.if-x-2.false c.if-x-3.false c.if-b-ge-INFINITY_BITS.true
 
 pub pattern_of_root-requires : goal.pattern_of_root-requires
-pattern_of_root-requires c = let second = c.before.before.before in
-    let start = second.before.before in
-    asked start.requires.0 start.requires.1 (pattern_above_zero _ (held start) second.if2.false) c.units_of-units.ensures
+pattern_of_root-requires c =
+    asked c.requires.0 c.requires.1 (pattern_above_zero _ (held _ c.well_formed.1.0.1) c.if-x-2.false) c.units_of-units.ensures
 
 pub float_from_bits-result : goal.float_from_bits-result
-float_from_bits-result c = let start = c.before.before.before.before.before.before in
-    pattern_is_number _ (rw c.pattern_of_root.ensures (rounded_in_range _ _ _ start.requires.0))
+float_from_bits-result c =
+    pattern_is_number _ (rw c.pattern_of_root.ensures (rounded_in_range _ _ _ c.requires.0))
 
 pub returns : goal.returns
-returns c = let fourth = c.before.before in
-    let third = fourth.before in
-    let first = third.before.before in
+returns c =
     ap (of_bits binary64) c.pattern_of_root.ensures
-    ∙ finite_root _ _ _ _ (held first.before) first.if1.false third.before.if2.false third.if3.false fourth.if4.false c.units_of-units.ensures
+    ∙ finite_root _ _ _ _ (held _ c.well_formed.1.0.1) c.if-x.false c.if-x-2.false c.if-x-3.false c.if-b-ge-INFINITY_BITS.false c.units_of-units.ensures

@@ -3,4 +3,4 @@ use borrow.Author.Rules.{rules}
 use Rattle.roots.proofs.inverse.pattern_of_root.Goals as goal
 
 pub returns-in-At : goal.returns-in-At
-returns-in-At c = rw c.c-1.given.1 at c.settle.ensures
+returns-in-At c = rw c.in-At.is at c.settle.ensures

@@ -16,12 +16,14 @@ pub loop-init : goal.loop-init
 loop-init c = (omega arith, rw (pow-zero, one-mul) (two_digits _ c.requires.1))
 
 pub times-requires : goal.times-requires
-times-requires c = let l = c.loop in
+times-requires c =
+    let l = c.loop in
     let pre = c.requires in
     (pre.0, l.invariant.1.row, rw (l.invariant.1.worth, ← once_more) (has_room _ _ _ pre.0 pre.1 (omega arith)))
 
 pub loop-preserved : goal.loop-preserved
-loop-preserved c = let l = c.loop in
+loop-preserved c =
+    let l = c.loop in
     let product = ap (λ (v : ℕ). v * c.args.m) l.invariant.1.worth in
     (omega arith, record { row = c.times.ensures.0; worth = c.times.ensures.1 ∙ product ∙ sym (once_more _ _ _) })
 
@@ -29,7 +31,8 @@ pub at_most-requires : goal.at_most-requires
 at_most-requires c = (c.loop.invariant.1.row, (one_digit c.args.t (omega arith)).row)
 
 pub returns : goal.returns
-returns c = let l = c.loop in
+returns c =
+    let l = c.loop in
     let args = c.args in
     let end : l.counter ≡ args.k = omega arith in
     rw (← (one_digit args.t (omega arith)).worth, ← (rw end at l.invariant.1.worth)) c.at_most.ensures

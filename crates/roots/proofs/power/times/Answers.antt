@@ -9,43 +9,28 @@ use Rattle.roots.proofs.power.NumeralLaws.{nothing_owed}
 use Rattle.roots.proofs.power.Multiplied.{Multiplied, multiplied_none, multiplied_more, product_small, product_smaller, sum_small}
 use Rattle.roots.proofs.power.times.Goals as goal
 
-sum_fits : (c : tie.After-digit invariant-loop decreases-loop) (low high : ℕ) → low < base → high < 2 ^ 23
-    → get_or c.before.before.loop.a c.before.before.loop.i 0 * low + c.before.before.loop.last * high + c.before.before.loop.carry < 2 ^ 63
-sum_fits c low high hl hh =
-    let l = c.before.before.loop in
-    sum_small (get_or l.a l.i 0) low l.last high l.carry (l.invariant.row.digits l.i) hl l.invariant.read hh l.invariant.carried
-
 pub loop-i-init : goal.loop-i-init
 loop-i-init c = multiplied_none _ _ _ c.requires.1
 
 pub overflow_mul-sum : goal.overflow_mul-sum
-overflow_mul-sum c = let l = c.loop-i in
+overflow_mul-sum c =
+    let l = c.loop-i in
     let low = c.args.m % base in
     record { fits = omega (arith, product_small (get_or l.a l.i 0) low (l.invariant.row.digits l.i) (omega arith)) }
 
--- LOST mul-sum-2 : tie.Need-overflow-mul-sum-2 invariant-loop decreases-loop
--- LOST mul-sum-2 c =
--- LOST     let l = c.before.before.loop in
--- LOST     let high = c.before.before.before.args.m / base in
--- LOST     record { fits = omega (arith, product_smaller l.last high l.invariant.read (omega arith)) }
--- LOST 
-
 pub overflow_add-sum : goal.overflow_add-sum
-overflow_add-sum c = let m = c.args.m in
-    record { fits = omega (arith, sum_fits c (m % base) (m / base) (omega arith) (omega arith)) }
-
--- LOST add-sum-2 : tie.Need-overflow-add-sum-2 invariant-loop decreases-loop
--- LOST add-sum-2 c =
--- LOST     let m = c.before.before.before.args.m in
--- LOST     record { fits = omega (arith, sum_fits c (m % base) (m / base) (omega arith) (omega arith)) }
--- LOST 
+overflow_add-sum c =
+    let m = c.args.m in
+    let l = c.loop-i in
+    record { fits = omega (arith, sum_small (get_or l.a l.i 0) (m % base) l.last (m / base) l.carry (l.invariant.row.digits l.i) (omega arith) l.invariant.read (omega arith) l.invariant.carried) }
 
 pub loop-i-preserved : goal.loop-i-preserved
 loop-i-preserved c = multiplied_more _ _ _ _ _ _ _ c.loop-i.invariant (omega arith) (omega arith) (omega arith) _ refl
 
 pub returns : goal.returns
 unfolding room
-returns c = let l = c.loop-i in
+returns c =
+    let l = c.loop-i in
     let m = c.args.m in
     let end : l.i ≡ 14 = omega arith in
     let halves : m % base + m / base * base ≡ m = omega arith in

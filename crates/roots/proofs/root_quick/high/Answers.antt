@@ -41,22 +41,18 @@ upper_fits u v hu hv =
 product_fits : (x y : ℕ) → x < half → y < half → x * y < 2 ^ 64
 product_fits x y hx hy = lt_of_le_of_lt (mul-le-mul {n₂ = 4294967295} {m₂ = 4294967295} (omega arith) (omega arith)) (lit< tt)
 
--- each half is below 2 ^ 32
-module _ (c : tie.Start) where
-  u1 : c.args.u / half < half
-  u1 = omega (arith, c.ranges.u.fits)
-
-  v1 : c.args.v / half < half
-  v1 = omega (arith, c.ranges.v.fits)
+-- the upper half is below 2 ^ 32
+upper_half : (u : ℕ) → u < 2 ^ 64 → u / half < half
+upper_half u h = omega arith
 
 pub overflow_mul-result : goal.overflow_mul-result
-overflow_mul-result c = record { fits = product_fits _ _ (u1 c) (v1 c) }
+overflow_mul-result c = record { fits = product_fits _ _ (upper_half c.args.u c.ranges.u.fits) (upper_half c.args.v c.ranges.v.fits) }
 
 pub overflow_mul-result-2 : goal.overflow_mul-result-2
-overflow_mul-result-2 c = record { fits = product_fits _ (c.args.v % half) (u1 c) (omega arith) }
+overflow_mul-result-2 c = record { fits = product_fits _ (c.args.v % half) (upper_half c.args.u c.ranges.u.fits) (omega arith) }
 
 pub overflow_mul-result-3 : goal.overflow_mul-result-3
-overflow_mul-result-3 c = record { fits = product_fits (c.args.u % half) _ (omega arith) (v1 c) }
+overflow_mul-result-3 c = record { fits = product_fits (c.args.u % half) _ (omega arith) (upper_half c.args.v c.ranges.v.fits) }
 
 pub overflow_add-result : goal.overflow_add-result
 overflow_add-result c = record { fits = omega (arith, upper_fits c.args.u c.args.v c.ranges.u.fits c.ranges.v.fits) }

@@ -13,15 +13,6 @@ use Rattle.roots.proofs.root_quick.QuickRoot.{root_above, root_below}
 use borrow.Author.Rules.{rules}
 use Rattle.roots.proofs.root_quick.settle.Goals as goal
 
--- the distance to the next middle is a number of the code
-reach_small : (c : tie.After-upper) (k : ℕ) → k ≡ c.before.before.before.before.before.before.before.before.args.k
-    → 2 * k * (c.before.before.limit.result / (2 * c.before.before.before.before.before.units_of.result.digits + 1 + 2 * k)) < 2 ^ 32
-reach_small c k is =
-    let limited = c.before.before in
-    let inner = limited.before in
-    let start = inner.before.before.before.before.before in
-    small_reach _ _ (2 * k) limited.limit.type-inv (omega (arith, inner.if3.false)) (omega (arith, start.requires.upto))
-
 -- the two ways to be sure, whatever the numbers are called
 module _
     {k b m q n g p h : ℕ}
@@ -47,23 +38,18 @@ module _
     is_below (under, close) inner =
         root_below k (b - 1) m q n g p h (p / (2 * m + 1 + 2 * k)) read asked (omega arith) (limit (some close)) near reach inner under close
 
+-- the distance to the next middle is a number of the code
 pub overflow_mul-reach-3 : goal.overflow_mul-reach-3
-overflow_mul-reach-3 c = record { fits = omega (arith, reach_small c _ refl) }
+overflow_mul-reach-3 c =
+    let small = small_reach c.limit-p.result (2 * c.units_of-r.result.digits + 1 + 2 * c.args.k) (2 * c.args.k) c.limit-p.type_inv (omega (arith, c.if-r-le-HIDDEN.false)) (omega (arith, c.requires.upto)) in
+    record { fits = omega (arith, small) }
 
 pub returns-in-Above : goal.returns-in-Above
-returns-in-Above c = let placed_at_lem = c.before.before in
-    let upper-at = placed_at_lem.before in
-    let limited = upper-at.before.before in
-    let read = limited.before.before.before in
-    let start = read.before.before.before in
-    is_above read.units_of.ensures start.requires read.before.before.if1.false read.before.if2.false limited.limit.ensures upper-at.upper.ensures
-    (rw c.enum_told-1.given.1 at placed_at_lem.place_of.ensures)
+returns-in-Above c =
+    is_above c.units_of-r.ensures c.requires c.if-b-le-HIDDEN.false c.if-b-ge-INFINITY_BITS.false c.limit-p.ensures c.upper-h.ensures
+    (rw c.in-Above.is at c.place_of.ensures)
 
 pub returns-in-Below : goal.returns-in-Below
-returns-in-Below c = let placed_at_lem = c.before.before in
-    let upper-at = placed_at_lem.before in
-    let limited = upper-at.before.before in
-    let read = limited.before.before.before in
-    let start = read.before.before.before in
-    is_below read.units_of.ensures start.requires read.before.before.if1.false read.before.if2.false limited.limit.ensures upper-at.upper.ensures
-    (rw c.enum_told-in-Below-1.given.1 at placed_at_lem.place_of.ensures) limited.before.if3.false
+returns-in-Below c =
+    is_below c.units_of-r.ensures c.requires c.if-b-le-HIDDEN.false c.if-b-ge-INFINITY_BITS.false c.limit-p.ensures c.upper-h.ensures
+    (rw c.in-Below.is at c.place_of.ensures) c.if-r-le-HIDDEN.false

@@ -12,7 +12,8 @@ pub loop-init : goal.loop-init
 loop-init c = (omega arith, rw (pow-zero, one-mul) (near_none (c.args.n * 2 ^ 11)))
 
 pub loop-preserved : goal.loop-preserved
-loop-preserved c = let l = c.loop in
+loop-preserved c =
+    let l = c.loop in
     let factor = c.args.m * 2 ^ 10 in
     (omega arith, rw once_more (near_more _ factor _ _ _ (omega arith) l.invariant.1 c.high-h.ensures))
 

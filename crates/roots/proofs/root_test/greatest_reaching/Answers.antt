@@ -1,20 +1,15 @@
 -- `roots::root_test::greatest_reaching` meets its contract: lo reaches and hi fails before each turn, and at the end they are neighbours.
 -- Assumes nothing.
 use mathlib.Core.Path.{◌≡◌, sym, ◌∙◌}
-use mathlib.Core.Logic.{⊎_elim}
 use mathlib.Core.Bool.{true, false}
 use Prim.Native.Nat.{ℕ, ◌+◌, ◌-◌, ◌^◌, ◌≤◌, ◌<◌}
 use native.Mathlib.Omega.{arith}
 use Rattle.roots.specs.Roots.{infinity_bits}
 use Rattle.roots.specs.laws.RootLaws.{rounded_is, zero_reaches, fails_past_infinity}
 use Rattle.roots.specs.Scaled.{reaches_root}
+use Rattle.roots.proofs.root_test.greatest_reaching.Invariants.{Bracketed}
 use Rattle.roots.proofs.root_test.greatest_reaching.Goals as goal
-
-record Bracketed (k digits places lo hi : ℕ) : Type 0 where
-  apart : lo < hi
-  in_range : hi ≤ infinity_bits + 1
-  passes : reaches_root k digits places lo ≡ true
-  fails : reaches_root k digits places hi ≡ false
+use Rattle.roots.proofs.root_test.greatest_reaching.Goals.{then-reaches, else-reaches}
 
 -- a pattern between them that was tested takes the place of one of them
 module _ {k digits places lo hi b : ℕ} (here : Bracketed k digits places lo hi) (above : lo < b) (below : b < hi) where
@@ -42,16 +37,17 @@ pub reaches-requires : goal.reaches-requires
 reaches-requires c = (c.requires, omega arith, omega arith)
 
 pub loop-lo-smaller : goal.loop-lo-smaller
-loop-lo-smaller c = ⊎_elim (λ w. omega arith) (λ w. omega arith) c.if-reaches.branch
+loop-lo-smaller c = elim c.if-reaches.branch [ then-reaches w ↦ omega arith | else-reaches w ↦ omega arith ]
 
 pub loop-lo-preserved : goal.loop-lo-preserved
-loop-lo-preserved c = let here = c.loop-lo.invariant.0 in
+loop-lo-preserved c =
+    let here = c.loop-lo.invariant.0 in
     let b = c.between-b.ensures in
     let test = sym c.reaches.ensures in (
-      ⊎_elim
-          (λ w. rw (w.1, w.2) (raised here b.0 b.1 (test ∙ w.0.taken)))
-          (λ w. rw (w.2, w.3) (lowered here b.0 b.1 (test ∙ w.0.left)))
-          c.if-reaches.branch,
+      elim c.if-reaches.branch [
+        then-reaches w ↦ rw (w.lo-is, w.hi-is) (raised here b.0 b.1 (test ∙ w.if-reaches.true))
+      | else-reaches w ↦ rw (w.lo-is, w.hi-is) (lowered here b.0 b.1 (test ∙ w.if-reaches.false))
+      ],
       omega arith,
     )
 

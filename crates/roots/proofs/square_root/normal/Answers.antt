@@ -6,5 +6,5 @@ use Rattle.roots.specs.laws.SqrtLaws.{sqrt_normal}
 use Rattle.roots.proofs.square_root.normal.Goals as goal
 
 pub returns : goal.returns
-returns c = let start = c.before.before in
-    c.scaled_root.ensures ∙ sym (sqrt_normal start.args.b start.requires.0 start.requires.1)
+returns c =
+    c.scaled_root.ensures ∙ sym (sqrt_normal c.args.b c.requires.0 c.requires.1)

@@ -23,11 +23,13 @@ pub overflow_cast-result : goal.overflow_cast-result
 overflow_cast-result c = omega (arith, leading_le 64 c.args.b)
 
 pub overflow_sub-result : goal.overflow_sub-result
-overflow_sub-result c = let first = first_digit c.args.b c.requires.0 c.requires.1 in
+overflow_sub-result c =
+    let first = first_digit c.args.b c.requires.0 c.requires.1 in
     omega (arith, first.1, first.4)
 
 pub returns : goal.returns
-returns c = let b = c.args.b in
+returns c =
+    let b = c.args.b in
     let first = first_digit b c.requires.0 c.requires.1 in
     let up = moved_up b first.0 (count_leading_zeros 64 b - 11) first.2 first.3 (omega (arith, first.1, first.4)) in
     (up.0, up.1, omega (arith, first.1, first.4))

@@ -21,6 +21,6 @@ pub returns-then-b-eq0 : goal.returns-then-b-eq0
 returns-then-b-eq0 c = own_root c.args.x 0 (c.requires.1 ∙ ap (of_bits binary64) c.if-b-eq0.true) zero_own
 
 pub returns : goal.returns
-returns c = let start = c.before.before.before.before in
+returns c =
     let places = c.places-j.ensures in
-    moved_up _ _ start.args.b c.places-j.result start.requires.1 (omega arith) start.requires.0 places.1 places.2 c.scaled_root.ensures
+    moved_up _ _ c.args.b c.places-j.result c.requires.1 (omega arith) c.requires.0 places.1 places.2 c.scaled_root.ensures

@@ -29,18 +29,18 @@ pub small-requires : goal.small-requires
 small-requires c = (c.if-b-lt-HIDDEN.true, is_pattern c.args.x c.well_formed.0.1)
 
 pub returns-then-b-lt-INFINITY_BITS : goal.returns-then-b-lt-INFINITY_BITS
-returns-then-b-lt-INFINITY_BITS c = let start = c.before.before.before.before in
-    c.normal.ensures ∙ ap sqrt_of (sym (is_pattern start.args.x start.well-formed.0.1))
+returns-then-b-lt-INFINITY_BITS c =
+    c.normal.ensures ∙ ap sqrt_of (sym (is_pattern c.args.x c.well_formed.0.1))
 
 pub returns-then-b-eq-INFINITY_BITS : goal.returns-then-b-eq-INFINITY_BITS
-returns-then-b-eq-INFINITY_BITS c = let start = c.before.before.before.before in
-    own_root _ infinity_bits (at_pattern start.args.x infinity_bits start.well-formed.0.1 c.if-b-eq-INFINITY_BITS.true) infinity_own
+returns-then-b-eq-INFINITY_BITS c =
+    own_root _ infinity_bits (at_pattern c.args.x infinity_bits c.well_formed.0.1 c.if-b-eq-INFINITY_BITS.true) infinity_own
 
 pub returns-then-b : goal.returns-then-b
-returns-then-b c = let start = c.before.before.before.before.before in
-    own_root _ (2 ^ 63) (at_pattern start.args.x (2 ^ 63) start.well-formed.0.1 c.if-b.true) negative_zero_own
+returns-then-b c =
+    own_root _ (2 ^ 63) (at_pattern c.args.x (2 ^ 63) c.well_formed.0.1 c.if-b.true) negative_zero_own
 
 pub returns : goal.returns
-returns c = let start = c.before.before.before.before.before.before in
-    let above : infinity_bits < to_bits binary64 start.args.x = omega arith in
-    c.not_a_number.ensures ∙ sym (sqrt_of_rest start.args.x (subst T (sym start.well-formed.0.1) tt) above c.if-b.false)
+returns c =
+    let above : infinity_bits < to_bits binary64 c.args.x = omega arith in
+    c.not_a_number.ensures ∙ sym (sqrt_of_rest c.args.x (subst T (sym c.well_formed.0.1) tt) above c.if-b.false)

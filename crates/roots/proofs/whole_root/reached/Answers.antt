@@ -69,7 +69,8 @@ pub overflow_add-result-2 : goal.overflow_add-result-2
 overflow_add-result-2 c = omega (arith, small c.args.m c.requires.0)
 
 pub returns : goal.returns
-returns c = let m = c.args.m in
+returns c =
+    let m = c.args.m in
     let n = c.args.n in
     upper_words (high (m / 2 ^ 26) (m % 2 ^ 26)) (low (m / 2 ^ 26) (m % 2 ^ 26)) m n c.requires.0
     ∙ ap (λ (s : ℕ). ltb s (n * 2 ^ 52 + m)) (sym (square m))

@@ -7,13 +7,8 @@ use native.Mathlib.Nat.{mul-le-mul_right}
 use native.Mathlib.Omega.{arith}
 use borrow.Author.Tests.{ltb-true, ltb-false}
 use Rattle.roots.specs.WholeRoot.{NearestWhole}
+use Rattle.roots.proofs.whole_root.search.Invariants.{Bracket}
 use Rattle.roots.proofs.whole_root.search.Goals as goal
-
-record Bracket (n lo hi : ℕ) : Type 0 where
-  apart : lo < hi
-  below : hi ≤ 2 ^ 53
-  reached : lo * lo < n * 2 ^ 52 + lo
-  missed : n * 2 ^ 52 + hi ≤ hi * hi
 
 -- 2 ^ 52 and 2 ^ 53 as p and 2 p
 whole_range : (n p : ℕ) → 0 < p → p ≤ n → n + 2 ≤ 4 * p → (p * p < n * p + p) × (n * p + 2 * p ≤ 2 * p * (2 * p))
@@ -26,15 +21,18 @@ neighbours n lo hi b h =
     record { reached = b.reached; last = omega arith }
 
 pub loop-lo-init : goal.loop-lo-init
-loop-lo-init c = let range = whole_range c.args.n (2 ^ 52) (omega arith) c.requires.0 c.requires.1 in
+loop-lo-init c =
+    let range = whole_range c.args.n (2 ^ 52) (omega arith) c.requires.0 c.requires.1 in
     record { apart = omega arith; below = omega arith; reached = range.0; missed = range.1 }
 
 pub loop-lo-preserved-then-reached : goal.loop-lo-preserved-then-reached
-loop-lo-preserved-then-reached c = let inv = c.loop-lo.invariant in
+loop-lo-preserved-then-reached c =
+    let inv = c.loop-lo.invariant in
     record { apart = omega arith; below = inv.below; reached = ltb-true _ _ (sym c.reached.ensures ∙ c.if-reached.true); missed = inv.missed }
 
 pub loop-lo-preserved : goal.loop-lo-preserved
-loop-lo-preserved c = let inv = c.loop-lo.invariant in
+loop-lo-preserved c =
+    let inv = c.loop-lo.invariant in
     record { apart = omega arith; below = omega arith; reached = inv.reached; missed = ltb-false _ _ (sym c.reached.ensures ∙ c.if-reached.false) }
 
 pub returns : goal.returns

@@ -1,0 +1,21 @@
+-- `polynomial::evaluate`: one component a turn. Assumes nothing.
+use mathlib.Core.Path.{◌≡◌, refl}
+use Prim.Native.Nat.{◌-◌}
+use native.Mathlib.Omega.{arith}
+use lib.ListN.{length, set, length-set}
+use Rattle.loops.specs.laws.Turned.{Turned, turn_none, turn_more, turn_all}
+use mathlib.Core.List.{List}
+use lib.Ieee.{Float}
+use Rattle.interpolation.specs.Interpolate.{evaluated, sum_at}
+use Rattle.interpolation.proofs.polynomial.evaluate.Goals as goal
+
+pub loop-i-init : goal.loop-i-init
+loop-i-init c = (refl, refl, turn_none (omega arith))
+
+pub loop-i-preserved : goal.loop-i-preserved
+loop-i-preserved c = let loop = c.loop-i in
+    (loop.invariant.0, simp length-set loop.invariant.1, turn_more loop.invariant.2 (omega arith) (rw c.sum_at-sum.ensures))
+
+pub returns : goal.returns
+unfolding evaluated
+returns c = turn_all c.loop-i.invariant.2 (omega arith)

@@ -1,0 +1,15 @@
+use mathlib.Core.Path.{◌≡◌, refl}
+use Prim.Native.Nat.{◌-◌}
+use native.Mathlib.Omega.{arith}
+use lib.ListN.{length, set, length-set}
+use Rattle.loops.specs.laws.Turned.{Turned, turn_none, turn_more, turn_all}
+use mathlib.Core.List.{List}
+use lib.Ieee.{Float}
+use Rattle.interpolation.specs.Interpolate.{evaluated, sum_at}
+use Rattle.interpolation.proofs.polynomial.evaluate.Given as goal
+
+abbrev pub invariant-loop-i : goal.invariant-loop-i
+invariant-loop-i l = (l.i-end ≡ length l.initial.yi) × (length l.yi ≡ length l.initial.yi) × Turned 0 (length l.initial.yi) (λ i (t : List Float). set t i (sum_at l.cont l.p l.order i)) l.initial.yi l.i l.yi
+
+abbrev pub decreases-loop-i : goal.decreases-loop-i
+decreases-loop-i l = l.i-end - l.i
