@@ -1,6 +1,7 @@
 -- Where the next text goes once a page was written out. Whether a write is done is not ours to say, and no contract tells it: it
 -- stands here as a truth value of which nothing is known. What it is, and the page and its place, decide the place that comes back.
-use Rattle.std.specs.Prelude.{◌≡◌, Bool, ℕ, ◌+◌, leb}
+use Rattle.std.specs.Prelude.{◌≡◌, Bool, ℕ, ◌+◌, leb, List, ◌++◌, take, ⊤, Option, None, Some}
+use Rattle.std.specs.Io.KnownBytes.{Keeps}
 use Rattle.loops.specs.Choice.{if◌then◌else◌}
 use Rattle.text.specs.declared.page.Place.{Place}
 use Rattle.text.specs.declared.page.Place.TheVariants.{At, Full}
@@ -25,3 +26,16 @@ pub record Flushed (len : ℕ) (place r : Place) : Type 0 where
 pub record MadeRoomy (len line : ℕ) (place r : Place) : Type 0 where
   pub written : Bool
   pub is : r ≡ made_roomy written len line place
+
+-- What a writer held and the bytes behind it are what it holds now and the bytes then behind it, where that is known.
+abbrev pub SaysTheSame : Option (List ℕ) → Option (List ℕ) → List ℕ → List ℕ → Type 0
+SaysTheSame None new before after = ⊤
+SaysTheSame (Some held) None before after = ⊥
+SaysTheSame (Some held) (Some holds) before after = held ++ before ≡ holds ++ after
+
+-- What was written and then the page up to its place are as they were: no byte of it is lost, none comes twice. A full page is not
+-- written. Where a write fails a part of it may be.
+abbrev pub KeepsSaid : Option (List ℕ) → Option (List ℕ) → List ℕ → Place → Place → Type 0
+KeepsSaid old new out (At at) (At next) = SaysTheSame old new (take at out) (take next out)
+KeepsSaid old new out (At at) Full = ⊤
+KeepsSaid old new out Full r = Keeps old new

@@ -1,15 +1,15 @@
 -- `output::flush` meets its contract: beyond the page, on a full one and after a failed write the page is full, otherwise it begins
 -- anew. What is written is as long as the place says, since the place lies within. Assumes nothing.
-use mathlib.Core.Path.{◌≡◌, refl, sym}
+use mathlib.Core.Path.{◌∙◌, ◌≡◌, refl, sym}
 use mathlib.Core.Bool.{Bool, true, false}
 use Prim.Native.Nat.{ℕ, ◌≤◌, ◌<◌}
 use borrow.Author.Tests.{le-leb, lt-leb}
 use Rattle.loops.specs.Choice.{if◌then◌else◌}
 use Rattle.loops.specs.laws.ChoiceLaws.{when_true, when_false}
-use Rattle.text.specs.laws.Fronts.{front}
 use Rattle.text.specs.declared.page.Place.{Place}
 use Rattle.text.specs.declared.page.Place.TheVariants.{At, Full}
 use Rattle.output.specs.Output.{flushed, Flushed}
+use Rattle.output.proofs.Saying.{given_up, broken_off, written_out, of_ok}
 use Rattle.output.proofs.flush.Goals as goal
 
 beyond : (len at : ℕ) {place : Place} → place ≡ At at → len < at → Flushed len place Full
@@ -33,17 +33,26 @@ stays_full : (len : ℕ) {place : Place} → place ≡ Full → Flushed len plac
 unfolding flushed
 stays_full len p = record { written = false; is = rw p refl }
 
-pub returns-then-at-out : goal.returns-then-at-out
-returns-then-at-out g c = beyond _ _ c.in-At.is c.if-at-out.true
+pub returns-then-at-out-clause-place : goal.returns-then-at-out-clause-place
+returns-then-at-out-clause-place g c = beyond _ _ c.in-At.is c.if-at-out.true
 
-pub slice_bounds-write_all-end : goal.slice_bounds-write_all-end
-slice_bounds-write_all-end g c = front _ _ c.if-at-out.false
+pub returns-then-is_ok-clause-place : goal.returns-then-is_ok-clause-place
+returns-then-is_ok-clause-place g c = begun_anew _ _ c.in-At.is c.if-at-out.false
 
-pub returns-then-is_ok : goal.returns-then-is_ok
-returns-then-is_ok g c = begun_anew _ _ c.in-At.is c.if-at-out.false
+pub returns-else-is_ok-clause-place : goal.returns-else-is_ok-clause-place
+returns-else-is_ok-clause-place g c = failed _ _ c.in-At.is c.if-at-out.false
 
-pub returns-else-is_ok : goal.returns-else-is_ok
-returns-else-is_ok g c = failed _ _ c.in-At.is c.if-at-out.false
+pub returns-in-Full-clause-place : goal.returns-in-Full-clause-place
+returns-in-Full-clause-place g c = stays_full _ c.in-Full.is
 
-pub returns-in-Full : goal.returns-in-Full
-returns-in-Full g c = stays_full _ c.in-Full.is
+pub returns-then-at-out-clause-said : goal.returns-then-at-out-clause-said
+returns-then-at-out-clause-said g c = given_up _ _ _
+
+pub returns-then-is_ok-clause-said : goal.returns-then-is_ok-clause-said
+returns-then-is_ok-clause-said g c = written_out _ _ _ _ c.in-At.is (of_ok _ (sym c.is_ok.ensures.value ∙ c.if-is_ok.true) c.write_all.ensures.bytes)
+
+pub returns-else-is_ok-clause-said : goal.returns-else-is_ok-clause-said
+returns-else-is_ok-clause-said g c = broken_off _ _ _ c.in-At.is
+
+pub returns-in-Full-clause-said : goal.returns-in-Full-clause-said
+returns-in-Full-clause-said g c = given_up _ _ _

@@ -9,6 +9,7 @@ use Rattle.loops.specs.laws.ChoiceLaws.{when_true, when_false}
 use Rattle.text.specs.declared.page.Place.{Place}
 use Rattle.text.specs.declared.page.Place.TheVariants.{At, Full}
 use Rattle.output.specs.Output.{flushed, made_roomy, Flushed, MadeRoomy}
+use Rattle.output.proofs.Saying.{given_up, same_place}
 use Rattle.output.proofs.roomy.Goals as goal
 
 stays : (len line at : ℕ) {place : Place} → place ≡ At at → at ≤ len → line ≤ len - at → MadeRoomy len line place (At at)
@@ -34,14 +35,26 @@ stays_full : (len line : ℕ) {place : Place} → place ≡ Full → MadeRoomy l
 unfolding made_roomy
 stays_full len line p = record { written = false; is = rw p refl }
 
-pub returns-then-at-out : goal.returns-then-at-out
-returns-then-at-out g c = beyond _ _ _ c.in-At.is c.if-at-out.true
+pub returns-then-at-out-clause-place : goal.returns-then-at-out-clause-place
+returns-then-at-out-clause-place g c = beyond _ _ _ c.in-At.is c.if-at-out.true
 
-pub returns-then-out-at : goal.returns-then-out-at
-returns-then-out-at g c = too_long _ _ _ c.in-At.is c.if-at-out.false c.if-out-at.true c.flush.ensures
+pub returns-then-out-at-clause-place : goal.returns-then-out-at-clause-place
+returns-then-out-at-clause-place g c = too_long _ _ _ c.in-At.is c.if-at-out.false c.if-out-at.true c.flush.ensures.place
 
-pub returns-else-out-at : goal.returns-else-out-at
-returns-else-out-at g c = stays _ _ _ c.in-At.is c.if-at-out.false c.if-out-at.false
+pub returns-else-out-at-clause-place : goal.returns-else-out-at-clause-place
+returns-else-out-at-clause-place g c = stays _ _ _ c.in-At.is c.if-at-out.false c.if-out-at.false
 
-pub returns-in-Full : goal.returns-in-Full
-returns-in-Full g c = stays_full _ _ c.in-Full.is
+pub returns-in-Full-clause-place : goal.returns-in-Full-clause-place
+returns-in-Full-clause-place g c = stays_full _ _ c.in-Full.is
+
+pub returns-then-at-out-clause-said : goal.returns-then-at-out-clause-said
+returns-then-at-out-clause-said g c = given_up _ _ _
+
+pub returns-then-out-at-clause-said : goal.returns-then-out-at-clause-said
+returns-then-out-at-clause-said g c = rw c.in-At.is c.flush.ensures.said
+
+pub returns-else-out-at-clause-said : goal.returns-else-out-at-clause-said
+returns-else-out-at-clause-said g c = rw c.in-At.is (same_place _ _ (At c.in-At.at))
+
+pub returns-in-Full-clause-said : goal.returns-in-Full-clause-said
+returns-in-Full-clause-said g c = given_up _ _ _
