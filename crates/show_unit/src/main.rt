@@ -4,21 +4,17 @@
 
 ghost use Rattle.std.specs.Prelude.{◌≤◌};
 
-use libc::STDERR_FILENO;
 use text::Place;
 use unit::unit_r;
 
 // Room for all twenty rows: fewer than 2,000 bytes.
 const PAGE: usize = 4096;
 
-fn main() {
+fn main(rt: HostRuntime) {
     let mut out = [0u8; PAGE];
     let end = tables(&mut out);
-    if !text::stands(output::flush(&out, end)) {
-        io::write_all(
-            STDERR_FILENO,
-            b"show_unit: standard output was not written\n",
-        );
+    if !text::stands(output::flush(&mut rt.stdout(), &out, end)) {
+        let _ = rt.eprintln("show_unit: standard output was not written");
     }
 }
 
