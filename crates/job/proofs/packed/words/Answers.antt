@@ -1,0 +1,39 @@
+-- `packed::words` meets its contract. The invariant: the places passed hold their words, and those to come are as they were.
+-- Assumes nothing.
+use mathlib.Core.Path.{◌≡◌, refl}
+use mathlib.Core.List.{List, [], ◌∷◌, ◌++◌}
+use Prim.Native.Nat.{ℕ, suc, ◌+◌, ◌-◌, ◌≤◌}
+use native.Mathlib.Omega.{arith}
+use Rattle.job.specs.Packed.{word_of, words_of}
+use Rattle.job.proofs.Loading.{Loaded, none_loaded, one_more, all_loaded}
+use Rattle.job.proofs.packed.words.Goals as goal
+
+none_yet : (s : List ℕ) (i : ℕ) → words_of s i 0 ≡ []
+unfolding words_of
+none_yet s i = refl
+
+next : (s : List ℕ) (i k : ℕ) {v : ℕ} → v ≡ word_of s (i + k) → words_of s i (suc k) ≡ words_of s i k ++ (v ∷ [])
+unfolding words_of
+next s i k e = rw e
+
+pub loop-k-init : goal.loop-k-init
+loop-k-init c = (omega arith, none_loaded _ _ (none_yet _ _))
+
+pub bounds-to-k : goal.bounds-to-k
+bounds-to-k c = omega (arith, c.loop-k.invariant.1.size)
+
+pub loop-k-preserved : goal.loop-k-preserved
+loop-k-preserved c =
+    let there = c.loop-k.invariant.1 in
+    let size = there.size in
+    (omega arith, one_more _ _ _ _ _ there (omega arith) (next _ _ _ c.word.ensures))
+
+pub returns : goal.returns
+returns c = all_loaded _ _ _ _ _ (omega arith) c.loop-k.invariant.1
+
+-- LOST mul-to : tie.Need-overflow-mul-to invariant-loop decreases-loop
+-- LOST mul-to c = omega (arith, c.before.before.loop.invariant.1.size)
+-- LOST 
+
+pub shape_of-to : goal.shape_of-to
+shape_of-to c = omega (arith, c.loop-k.invariant.1.size)

@@ -1,0 +1,54 @@
+-- `reader::read` meets its contract: a form that was read has at most as many components as the arrays hold, and its file is long enough
+-- for y0 and A (`served`). Assumes nothing.
+use mathlib.Core.Path.{◌≡◌, sym, ap, ◌∙◌}
+use mathlib.Core.List.{List, ◌++◌}
+use Prim.Native.Nat.{ℕ, ◌+◌, ◌*◌}
+use native.Mathlib.Omega.{arith}
+use lib.ListN.{drop}
+use lib.Ieee.{Float}
+use borrow.Author.Rules.{rules}
+use Rattle.loops.specs.Refusal.{gives, refuses}
+use Rattle.job.specs.declared.form.Form.{Form}
+use Rattle.job.specs.declared.form.FormReading.{FormReading}
+use Rattle.job.specs.declared.form.FormReading.TheVariants.{Read, Refused}
+use Rattle.job.specs.declared.reader.Job.{Job}
+use Rattle.job.specs.Packed.{doubles_of}
+use Rattle.job.specs.Reading.{ReadOutcome, form_read, form_reading_of, job_of, placed, read_of}
+use Rattle.job.proofs.Serving.{served, square}
+use Rattle.job.proofs.reader.read.Goals as goal
+
+module _ (s : List ℕ) {r : FormReading} (is : form_reading_of r ≡ form_read s) where
+  module _ (y0 a : List Float) where
+    a_job :
+        (f : Form) {j : Job} {y b : List Float} → r ≡ Read f → y ≡ doubles_of s 5 f.n ++ drop f.n y0 →
+        b ≡ doubles_of s (5 + f.n) (f.n * f.n) ++ drop (f.n * f.n) a → j ≡ job_of f → ◌≡◌ {A = ReadOutcome} (gives j, y, b) (read_of s y0 a)
+    unfolding read_of
+    a_job f e p q g = rw (p, q, g) (ap (λ o. placed s o y0 a) (sym (ap form_reading_of e) ∙ is))
+
+    a_refusal : (number : ℕ) → r ≡ Refused number → ◌≡◌ {A = ReadOutcome} (refuses number, y0, a) (read_of s y0 a)
+    unfolding read_of
+    a_refusal number e = ap (λ o. placed s o y0 a) (sym (ap form_reading_of e) ∙ is)
+
+pub doubles-requires : goal.doubles-requires
+doubles-requires c =
+    let h = served _ c.before.before.before.before.form_read_lem.ensures.ensures _ c.in-Read.is in
+    (omega (arith, h.few, h.long), omega (arith, h.few))
+
+-- LOST add-doubles : tie.Need-overflow-add-doubles
+-- LOST add-doubles c = omega (arith, (served _ c.before.before.before.before.before.form_read_lem.ensures _ c.before.before.before.f.given.1).few)
+-- LOST 
+
+-- LOST mul-doubles : tie.Need-overflow-mul-doubles
+-- LOST mul-doubles c = omega (arith, square _ c.before.before.before.before.before.form_read_lem.ensures _ c.before.before.before.f.given.1)
+-- LOST 
+
+pub doubles-requires-in-Read : goal.doubles-requires-in-Read
+doubles-requires-in-Read c =
+    let h = served _ c.before.before.before.before.before.before.form_read_lem.ensures.ensures _ c.in-Read.is in
+    (omega (arith, h.long), omega (arith, square _ c.before.before.before.before.before.before.form_read_lem.ensures.ensures _ c.in-Read.is))
+
+pub returns-in-Read : goal.returns-in-Read
+returns-in-Read c = a_job _ c.before.before.before.before.before.before.before.before.form_read_lem.ensures.ensures _ _ _ c.in-Read.is c.doubles.ensures c.doubles-in-Read.ensures c.Job-of.ensures.ensures
+
+pub returns-in-Refused : goal.returns-in-Refused
+returns-in-Refused c = a_refusal _ c.before.before.before.form_read_lem.ensures.ensures _ _ _ c.in-Refused.is

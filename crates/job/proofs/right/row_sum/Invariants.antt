@@ -1,0 +1,17 @@
+use mathlib.Core.Path.{◌≡◌, refl}
+use Prim.Native.Nat.{ℕ, ◌*◌, ◌+◌, ◌-◌, ◌≤◌, ◌<◌}
+use native.Mathlib.Nat.{mul-le-mul}
+use native.Mathlib.Omega.{arith}
+use lib.ListN.{length}
+use lib.Ieee.{binary64, of_bits}
+use Rattle.loops.specs.laws.RowLaws.{inside}
+use Rattle.loops.specs.laws.Turned.{Turned, turn_none, turn_more, turn_all}
+use Rattle.job.specs.Types.{max_n}
+use Rattle.job.specs.Right.{sum_turn, row_sum}
+use Rattle.job.proofs.right.row_sum.Given as goal
+
+abbrev pub invariant-loop-c : goal.invariant-loop-c
+invariant-loop-c l = (l.n ≡ length l.y) × Turned 0 (length l.y) (sum_turn l.a l.y l.i) (of_bits binary64 0) l.c l.sum
+
+abbrev pub decreases-loop-c : goal.decreases-loop-c
+decreases-loop-c l = l.n - l.c
