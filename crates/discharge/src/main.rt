@@ -1,25 +1,21 @@
 // Two capacitors discharge through resistors: prints the voltage of the second, half way and at the end. docs/USING.md goes through it.
-// Where the end was not reached no value is printed but the word for it: a program of this language has no exit status to say so.
+// Where the end was not reached no value is printed but the word for it; the exit status does not say so.
 #![tactic(auto)]
 
 mod decimal;
 mod run;
 
-use libc::STDERR_FILENO;
 use run::Outcome;
 use text::Place;
 
 // Room for both lines.
 const PAGE: usize = 256;
 
-fn main() {
+fn main(rt: HostRuntime) {
     let mut out = [0u8; PAGE];
     let end = report(&mut out, run::discharge());
-    if !text::stands(output::flush(&out, end)) {
-        io::write_all(
-            STDERR_FILENO,
-            b"discharge: standard output was not written\n",
-        );
+    if !text::stands(output::flush(&mut rt.stdout(), &out, end)) {
+        let _ = rt.eprintln("discharge: standard output was not written");
     }
 }
 

@@ -11,7 +11,6 @@
 #![tactic(auto)]
 
 use job::{CELLS, Form, FormReading, Writing};
-use libc::{STDERR_FILENO, STDIN_FILENO, STDOUT_FILENO};
 use matrix::MAX_N;
 use text::{Place, Word};
 
@@ -23,67 +22,93 @@ const MATRIX: usize = 1100;
 const ROOM: usize = 8 * MATRIX;
 
 // A proved loop has to end, and nothing says that a stream does: it counts down from a number that no stream uses up.
-fn main() {
+fn main(rt: HostRuntime) {
     let mut bytes = [0u8; ROOM];
     let mut y0 = [0u64; PLACES];
     let mut a = [0u64; MATRIX];
     let mut out = [0u8; ROOM];
     let mut left = u64::MAX;
-    while left > 0 && case(&mut bytes, &mut y0, &mut a, &mut out) {
+    while left > 0 && case(&rt, &mut bytes, &mut y0, &mut a, &mut out) {
         left -= 1;
     }
 }
 
 // One case; whether another may follow.
-fn case(bytes: &mut [u8], y0: &mut [u64], a: &mut [u64], out: &mut [u8]) -> bool {
+fn case(
+    rt: &HostRuntime,
+    bytes: &mut [u8],
+    y0: &mut [u64],
+    a: &mut [u64],
+    out: &mut [u8],
+) -> bool {
     let mut lead = [0u8; 16];
-    let got = io::read_full(STDIN_FILENO, &mut lead);
+    let got = input::full(&mut rt.stdin(), &mut lead);
     if got == 0 {
         return false;
     }
     if got < 16 {
-        return unfit();
+        return unfit(rt);
     }
     let room = word(&lead, 8) as usize;
     if room > out.len() {
-        return unfit();
+        return unfit(rt);
     }
     match word(&lead, 0) {
-        0 => form(bytes, y0, a, &mut out[..room]),
-        1 => file(bytes, &mut out[..room]),
-        _ => unfit(),
+        0 => form(rt, bytes, y0, a, &mut out[..room]),
+        1 => file(rt, bytes, &mut out[..room]),
+        _ => unfit(rt),
     }
 }
 
 // A form with y0 and A.
-fn form(bytes: &mut [u8], y0: &mut [u64], a: &mut [u64], out: &mut [u8]) -> bool {
-    if !fetched(bytes, 88) {
-        return unfit();
+fn form(
+    rt: &HostRuntime,
+    bytes: &mut [u8],
+    y0: &mut [u64],
+    a: &mut [u64],
+    out: &mut [u8],
+) -> bool {
+    if !fetched(rt, bytes, 88) {
+        return unfit(rt);
     }
     if word(bytes, 24) > 1 {
-        return unfit();
+        return unfit(rt);
     }
     let f = form_of(bytes);
     let places = word(bytes, 72) as usize;
     let cells = word(bytes, 80) as usize;
     if places > y0.len() {
-        return unfit();
+        return unfit(rt);
     }
     if cells > a.len() {
-        return unfit();
+        return unfit(rt);
     }
-    filled(f, bytes, &mut y0[..places], &mut a[..cells], out)
+    filled(
+        rt,
+        f,
+        bytes,
+        &mut y0[..places],
+        &mut a[..cells],
+        out,
+    )
 }
 
 // All of y0 and A come from the input.
-fn filled(f: Form, bytes: &mut [u8], y0: &mut [u64], a: &mut [u64], out: &mut [u8]) -> bool {
-    if !loaded(bytes, y0) {
-        return unfit();
+fn filled(
+    rt: &HostRuntime,
+    f: Form,
+    bytes: &mut [u8],
+    y0: &mut [u64],
+    a: &mut [u64],
+    out: &mut [u8],
+) -> bool {
+    if !loaded(rt, bytes, y0) {
+        return unfit(rt);
     }
-    if !loaded(bytes, a) {
-        return unfit();
+    if !loaded(rt, bytes, a) {
+        return unfit(rt);
     }
-    written(f, y0, a, out)
+    written(rt, f, y0, a, out)
 }
 
 fn form_of(s: &[u8]) -> Form {
@@ -110,74 +135,80 @@ fn form_of(s: &[u8]) -> Form {
 }
 
 // A file: it is read by its bits, and what was read is written.
-fn file(bytes: &mut [u8], out: &mut [u8]) -> bool {
+fn file(rt: &HostRuntime, bytes: &mut [u8], out: &mut [u8]) -> bool {
     let mut lead = [0u8; 8];
-    let got = io::read_full(STDIN_FILENO, &mut lead);
+    let got = input::full(&mut rt.stdin(), &mut lead);
     let length = word(&lead, 0) as usize;
     if got < 8 {
-        return unfit();
+        return unfit(rt);
     }
     if length > bytes.len() {
-        return unfit();
+        return unfit(rt);
     }
-    if !fetched(bytes, length) {
-        return unfit();
+    if !fetched(rt, bytes, length) {
+        return unfit(rt);
     }
-    reread(&bytes[..length], out)
+    reread(rt, &bytes[..length], out)
 }
 
-fn reread(s: &[u8], out: &mut [u8]) -> bool {
+fn reread(rt: &HostRuntime, s: &[u8], out: &mut [u8]) -> bool {
     let mut y0 = [0u64; MAX_N];
     let mut a = [0u64; CELLS];
     match job::read_form(s, &mut y0, &mut a) {
-        FormReading::Read(f) => rewritten(f, &y0, &a, out),
+        FormReading::Read(f) => rewritten(rt, f, &y0, &a, out),
         FormReading::Refused(number) => {
             blank(out);
-            told(Writing::Refused(number), out)
+            told(rt, Writing::Refused(number), out)
         }
     }
 }
 
 // The arrays as slices.
-fn rewritten(f: Form, y0: &[u64; MAX_N], a: &[u64; CELLS], out: &mut [u8]) -> bool {
-    fitted(f, y0, a, out)
+fn rewritten(
+    rt: &HostRuntime,
+    f: Form,
+    y0: &[u64; MAX_N],
+    a: &[u64; CELLS],
+    out: &mut [u8],
+) -> bool {
+    fitted(rt, f, y0, a, out)
 }
 
 // The reader gives no form with more components than the arrays hold.
-fn fitted(f: Form, y0: &[u64], a: &[u64], out: &mut [u8]) -> bool {
+fn fitted(rt: &HostRuntime, f: Form, y0: &[u64], a: &[u64], out: &mut [u8]) -> bool {
     let n = f.n;
     if n > MAX_N {
-        return unfit();
+        return unfit(rt);
     }
     if n > y0.len() {
-        return unfit();
+        return unfit(rt);
     }
     if n * n > a.len() {
-        return unfit();
+        return unfit(rt);
     }
-    written(f, &y0[..n], &a[..n * n], out)
+    written(rt, f, &y0[..n], &a[..n * n], out)
 }
 
-fn written(f: Form, y0: &[u64], a: &[u64], out: &mut [u8]) -> bool {
+fn written(rt: &HostRuntime, f: Form, y0: &[u64], a: &[u64], out: &mut [u8]) -> bool {
     blank(out);
     let said = job::write(f, y0, a, out);
-    told(said, out)
+    told(rt, said, out)
 }
 
 // Whether the next `length` bytes of the input now stand at the beginning of `bytes`.
-fn fetched(bytes: &mut [u8], length: usize) -> bool {
+fn fetched(rt: &HostRuntime, bytes: &mut [u8], length: usize) -> bool {
     if length > bytes.len() {
         return false;
     }
-    io::read_full(STDIN_FILENO, &mut bytes[..length]) == length
+    input::full(&mut rt.stdin(), &mut bytes[..length]) == length
 }
 
 // Whether the next words of the input now stand in `to`, as many as it has places.
-fn loaded(bytes: &mut [u8], to: &mut [u64]) -> bool {
+fn loaded(rt: &HostRuntime, bytes: &mut [u8], to: &mut [u64]) -> bool {
     if to.len() > bytes.len() / 8 {
         return false;
     }
-    if !fetched(bytes, 8 * to.len()) {
+    if !fetched(rt, bytes, 8 * to.len()) {
         return false;
     }
     for i in 0..to.len() {
@@ -202,16 +233,14 @@ fn blank(out: &mut [u8]) {
 }
 
 // The answer's line, and the slice; whether they were written out.
-fn told(said: Writing, out: &[u8]) -> bool {
+fn told(rt: &HostRuntime, said: Writing, out: &[u8]) -> bool {
     let mut line = [0u8; 32];
     let end = answer(&mut line, said);
-    if text::stands(output::flush(&line, end)) && io::write_all(STDOUT_FILENO, out) {
+    let mut to = rt.stdout();
+    if text::stands(output::flush(&mut to, &line, end)) && to.write_all(out).is_ok() {
         return true;
     }
-    io::write_all(
-        STDERR_FILENO,
-        b"write_job: standard output was not written\n",
-    );
+    let _ = rt.eprintln("write_job: standard output was not written");
     false
 }
 
@@ -230,7 +259,7 @@ fn numbered(line: &mut [u8], letter: u8, number: u64) -> Place {
 }
 
 // The stream is no row of cases.
-fn unfit() -> bool {
-    io::write_all(STDOUT_FILENO, b"X\n");
+fn unfit(rt: &HostRuntime) -> bool {
+    let _ = rt.print("X\n");
     false
 }
