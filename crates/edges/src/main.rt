@@ -15,6 +15,7 @@ ghost use Rattle.std.specs.Prelude.{◌≤◌};
 use drive::Case;
 use rules::settings::BDF;
 use rules::types::Setting;
+use std::io::Stdout;
 use text::Place;
 
 const CASES: usize = 5;
@@ -68,16 +69,19 @@ fn runs(out: &mut [u8], place: Place, tally: &mut [u64]) -> Place {
     p
 }
 
-fn edges(out: &mut [u8]) {
+fn edges(mut to: Stdout, out: &mut [u8]) {
     let mut tally = [0u64; tally::TALLY];
     let lengths = lengths::all(out, Place::At(0));
     let ends = runs(out, lengths, &mut tally);
     let places = tally::places(out, ends, &tally);
     let counts = tally::counts(out, places, &tally);
-    output::flush(out, counts);
+    output::flush(&mut to, out, counts);
 }
 
-fn main() {
-    let mut out = io::large_buffer();
-    edges(&mut out);
+// The bytes of the page: it has room for all that is said.
+const PAGE: usize = 65536;
+
+fn main(rt: HostRuntime) {
+    let mut out = [0u8; PAGE];
+    edges(rt.stdout(), &mut out);
 }

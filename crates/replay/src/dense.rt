@@ -6,6 +6,7 @@ use interpolation::Interpolation;
 const MOST: u64 = 64;
 
 pub(crate) fn interpolation(inp: &mut [u8], out: &mut [u8], s: State) -> State {
+    let to = s.to;
     let place = s.place;
     let size = source::count(inp, s.source, MOST);
     let source = size.source;
@@ -13,7 +14,7 @@ pub(crate) fn interpolation(inp: &mut [u8], out: &mut [u8], s: State) -> State {
     let coefficients = 7 * n;
     let mut yi = [0.0f64; 64];
     let mut cont = [0.0f64; 448];
-    let begun = State { source, place };
+    let begun = State { source, to, place };
     interpolate(inp, out, begun, &mut yi[..n], &mut cont[..coefficients])
 }
 
@@ -26,6 +27,7 @@ fn interpolate(
     yi: &mut [f64],
     cont: &mut [f64],
 ) -> State {
+    let to = s.to;
     let place = s.place;
     let xi = source::word(inp, s.source);
     let xold = source::word(inp, xi.source);
@@ -33,7 +35,7 @@ fn interpolate(
     let before = source::doubles(inp, h.source, yi);
     let source = source::doubles(inp, before, cont);
     let r = within(xi.word, xold.word, h.word, yi, cont);
-    fields::leaf(out, State { source, place }, number(r), yi)
+    fields::leaf(out, State { source, to, place }, number(r), yi)
 }
 
 fn within(xi: u64, xold: u64, h: u64, yi: &mut [f64], cont: &[f64]) -> Interpolation {

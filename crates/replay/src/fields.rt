@@ -43,6 +43,7 @@ pub(crate) fn refusal(out: &mut [u8], place: Place, number: u64) -> Place {
 // The line of a leaf, unless its words broke off: its numbers, or the number of a refusal where that is not 0.
 pub(crate) fn leaf(out: &mut [u8], s: State, number: u64, xs: &[f64]) -> State {
     let source = s.source;
+    let to = s.to;
     let place = s.place;
     if !source.fit {
         return s;
@@ -50,6 +51,7 @@ pub(crate) fn leaf(out: &mut [u8], s: State, number: u64, xs: &[f64]) -> State {
     let given = values(out, place, number, xs);
     State {
         source,
+        to,
         place: text::put_byte(out, given, b'\n'),
     }
 }

@@ -11,6 +11,7 @@ const MOST: u64 = 33;
 
 // `solves` is false for an LU decomposition: then there is no right side.
 pub(crate) fn system(inp: &mut [u8], out: &mut [u8], s: State, solves: bool) -> State {
+    let to = s.to;
     let place = s.place;
     let size = source::count(inp, s.source, MOST);
     let source = size.source;
@@ -20,7 +21,7 @@ pub(crate) fn system(inp: &mut [u8], out: &mut [u8], s: State, solves: bool) -> 
     let mut a = [0.0f64; 1089];
     let mut ip = [0usize; 33];
     let mut b = [0.0f64; 33];
-    let begun = State { source, place };
+    let begun = State { source, to, place };
     within(
         inp,
         out,
@@ -55,11 +56,12 @@ fn within(
     ip: &mut [usize],
     b: &mut [f64],
 ) -> State {
+    let to = s.to;
     let place = s.place;
     let pivots = source::numbers(inp, s.source, ip);
     let cells = source::doubles(inp, pivots, a);
     let source = source::doubles(inp, cells, b);
-    let read = State { source, place };
+    let read = State { source, to, place };
     if solves {
         return solved(out, read, a, ip, b);
     }
@@ -73,6 +75,7 @@ fn solved(out: &mut [u8], s: State, a: &[f64], ip: &[usize], b: &mut [f64]) -> S
 
 fn factored(out: &mut [u8], s: State, a: &mut [f64], ip: &mut [usize]) -> State {
     let source = s.source;
+    let to = s.to;
     let place = s.place;
     if !source.fit {
         return s;
@@ -80,6 +83,7 @@ fn factored(out: &mut [u8], s: State, a: &mut [f64], ip: &mut [usize]) -> State 
     let r = matrix::lu_decomp(a, ip);
     State {
         source,
+        to,
         place: factors(out, place, factoring_number(r), a, ip),
     }
 }

@@ -17,14 +17,16 @@ mod source;
 mod state;
 
 use state::State;
+use std::io::{Stdin, Stdout};
 
 // One case: its kind, and then what the kind calls for. A leaf writes one line, for which room is made here.
 fn case(inp: &mut [u8], out: &mut [u8], s: State) -> State {
     let before = s.place;
-    let place = output::roomy(out, before, fields::LINE);
+    let mut to = s.to;
+    let place = output::roomy(&mut to, out, before, fields::LINE);
     let taken = source::word(inp, s.source);
     let source = taken.source;
-    of_kind(inp, out, State { source, place }, taken.word)
+    of_kind(inp, out, State { source, to, place }, taken.word)
 }
 
 fn of_kind(inp: &mut [u8], out: &mut [u8], s: State, kind: u64) -> State {
@@ -40,8 +42,8 @@ fn of_kind(inp: &mut [u8], out: &mut [u8], s: State, kind: u64) -> State {
 
 // A proved loop has to end, and nothing says that a stream does. So it counts its turns down, from a number that no
 // stream uses up.
-fn replay(inp: &mut [u8], out: &mut [u8]) {
-    let mut s = state::begin(inp);
+fn replay(from: Stdin, mut to: Stdout, inp: &mut [u8], out: &mut [u8]) {
+    let mut s = state::begin(from, to, inp);
     let mut turns = u64::MAX;
     while turns > 0 && state::goes_on(s) {
         let t = case(inp, out, s);
@@ -49,11 +51,14 @@ fn replay(inp: &mut [u8], out: &mut [u8]) {
         turns -= 1;
     }
     let place = s.place;
-    output::flush(out, place);
+    output::flush(&mut to, out, place);
 }
 
-fn main() {
-    let mut inp = io::large_buffer();
-    let mut out = io::large_buffer();
-    replay(&mut inp, &mut out);
+// The bytes of either buffer: many, so that few calls move a long stream.
+const BUFFER: usize = 65536;
+
+fn main(rt: HostRuntime) {
+    let mut inp = [0u8; BUFFER];
+    let mut out = [0u8; BUFFER];
+    replay(rt.stdin(), rt.stdout(), &mut inp, &mut out);
 }

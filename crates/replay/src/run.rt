@@ -6,6 +6,7 @@ use crate::fields::LINE;
 use crate::solver::{Answer, Turn};
 use crate::state::State;
 use crate::{answer, config, refused, reply, solver, source, state};
+use std::io::Stdout;
 use text::Place;
 
 const MOST: u64 = 64;
@@ -18,17 +19,19 @@ struct Said {
 }
 
 pub(crate) fn run(inp: &mut [u8], out: &mut [u8], s: State) -> State {
+    let to = s.to;
     let place = s.place;
     let size = source::count(inp, s.source, MOST);
     let source = size.source;
     let n = size.word as usize;
     let mut y = [0.0f64; 64];
-    let begun = State { source, place };
+    let begun = State { source, to, place };
     configured(inp, out, begun, &mut y[..n])
 }
 
 // With room for just those components. Where the words broke off nothing is said of what was begun with them.
 fn configured(inp: &mut [u8], out: &mut [u8], s: State, y: &mut [f64]) -> State {
+    let to = s.to;
     let place = s.place;
     let mut rtols = [0.0f64; 64];
     let mut atols = [0.0f64; 64];
@@ -38,7 +41,7 @@ fn configured(inp: &mut [u8], out: &mut [u8], s: State, y: &mut [f64]) -> State 
     let source = source::doubles(inp, c.source, y);
     let turn = begun(c, y, &rtols, &atols, &mut ws, &mut q);
     let said = Said {
-        state: State { source, place },
+        state: State { source, to, place },
         turn,
     };
     turns(inp, out, said, at_most_32(y.len()), &mut ws, &mut q)
@@ -123,9 +126,10 @@ fn turn(
     let state = said.state;
     let asked = said.turn;
     let source = state.source;
+    let to = state.to;
     let before = state.place;
-    let place = line(out, before, asked, n, q);
-    let shown = state::before_waiting(out, State { source, place });
+    let place = line(to, out, before, asked, n, q);
+    let shown = state::before_waiting(out, State { source, to, place });
     let answer = asked.answer;
     let replied = reply::read(inp, source, answer, n, values);
     let left = replied.source;
@@ -135,6 +139,7 @@ fn turn(
     Said {
         state: State {
             source: left,
+            to,
             place: shown,
         },
         turn,
@@ -150,18 +155,20 @@ fn last(out: &mut [u8], said: Said, n: usize, q: &[f64]) -> State
         return state;
     }
     let source = state.source;
+    let to = state.to;
     let place = state.place;
     State {
         source,
-        place: line(out, place, said.turn, n, q),
+        to,
+        place: line(to, out, place, said.turn, n, q),
     }
 }
 
 // A line for what the run said.
-fn line(out: &mut [u8], before: Place, said: Turn, n: usize, q: &[f64]) -> Place
+fn line(mut to: Stdout, out: &mut [u8], before: Place, said: Turn, n: usize, q: &[f64]) -> Place
     requires { (n ≤ 32) × (length q.now ≡ 256) }
 {
-    let place = output::roomy(out, before, LINE);
+    let place = output::roomy(&mut to, out, before, LINE);
     let answer = said.answer;
     let run = said.run;
     let shown = answer::shown(answer, n);

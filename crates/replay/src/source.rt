@@ -3,13 +3,14 @@
 // its end, and whoever sends words and then listens is answered.
 ghost use Rattle.std.specs.Prelude.{◌≡◌, ◌≤◌};
 
-use libc::STDIN_FILENO;
+use std::io::Stdin;
 use text::Word;
 
-// Where the next word stands, and where what was read ends. `fit` is false once a word was missing, or was no kind or
+// Where the words come from, where the next one stands, and where what was read ends. `fit` is false once a word was missing, or was no kind or
 // too large for a count: from then on every word is 0, so that a case is read to its end before anyone asks.
 #[derive(Clone, Copy)]
 pub(crate) struct Source {
+    pub from: Stdin,
     pub at: usize,
     pub end: usize,
     pub fit: bool,
@@ -21,8 +22,9 @@ pub(crate) struct Taken {
     pub source: Source,
 }
 
-pub(crate) fn begin() -> Source {
+pub(crate) fn begin(from: Stdin) -> Source {
     Source {
+        from,
         at: 0,
         end: 0,
         fit: true,
@@ -34,10 +36,11 @@ pub(crate) fn filled(inp: &mut [u8], s: Source) -> Source {
     if s.at < s.end {
         return s;
     }
-    let got = libc::read(STDIN_FILENO, inp);
-    let some = io::count(got, inp);
-    let end = completed(inp, some);
+    let mut from = s.from;
+    let some = input::some(&mut from, inp);
+    let end = completed(from, inp, some);
     Source {
+        from,
         at: 0,
         end,
         fit: s.fit,
@@ -45,21 +48,21 @@ pub(crate) fn filled(inp: &mut [u8], s: Source) -> Source {
 }
 
 // Where the bytes end when the last word among them is whole; at the input's end it may stay as it is.
-fn completed(inp: &mut [u8], some: usize) -> usize {
+fn completed(from: Stdin, inp: &mut [u8], some: usize) -> usize {
     let mut end = some;
     for _ in 0..7usize {
-        end = one_more(inp, end);
+        end = one_more(from, inp, end);
     }
     end
 }
 
 // With one byte more, unless whole words stand there already.
-fn one_more(inp: &mut [u8], end: usize) -> usize {
+fn one_more(mut from: Stdin, inp: &mut [u8], end: usize) -> usize {
     if end % 8 == 0 {
         return end;
     }
     let mut byte = [0u8; 1];
-    let got = io::read_full(STDIN_FILENO, &mut byte);
+    let got = input::full(&mut from, &mut byte);
     if got == 0 {
         return end;
     }
@@ -72,6 +75,7 @@ fn one_more(inp: &mut [u8], end: usize) -> usize {
 
 pub(crate) fn unfit(s: Source) -> Source {
     Source {
+        from: s.from,
         at: s.at,
         end: s.end,
         fit: false,
@@ -96,6 +100,7 @@ pub(crate) fn word(inp: &mut [u8], s: Source) -> Taken {
         Word::Is(w) => Taken {
             word: w,
             source: Source {
+                from: f.from,
                 at: at + 8,
                 end,
                 fit: f.fit,

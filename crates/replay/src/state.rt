@@ -2,17 +2,20 @@
 use crate::fields::LINE;
 use crate::source;
 use crate::source::Source;
+use std::io::{Stdin, Stdout};
 use text::Place;
 
 #[derive(Clone, Copy)]
 pub(crate) struct State {
     pub source: Source,
+    pub to: Stdout,
     pub place: Place,
 }
 
-pub(crate) fn begin(inp: &mut [u8]) -> State {
+pub(crate) fn begin(from: Stdin, to: Stdout, inp: &mut [u8]) -> State {
     State {
-        source: source::filled(inp, source::begin()),
+        source: source::filled(inp, source::begin(from)),
+        to,
         place: Place::At(0),
     }
 }
@@ -40,16 +43,19 @@ pub(crate) fn stands(s: State) -> bool {
 pub(crate) fn next(inp: &mut [u8], out: &mut [u8], s: State) -> State {
     let source = s.source;
     let place = s.place;
+    let mut to = s.to;
     if source.fit {
         let shown = before_waiting(out, s);
         return State {
             source: source::filled(inp, source),
+            to,
             place: shown,
         };
     }
-    let roomy = output::roomy(out, place, LINE);
+    let roomy = output::roomy(&mut to, out, place, LINE);
     State {
         source,
+        to,
         place: text::put_bytes(out, roomy, b"X\n"),
     }
 }
@@ -61,14 +67,17 @@ pub(crate) fn before_waiting(out: &[u8], s: State) -> Place {
     if source.at < source.end {
         return place;
     }
-    output::flush(out, place)
+    let mut to = s.to;
+    output::flush(&mut to, out, place)
 }
 
 pub(crate) fn unfit(s: State) -> State {
     let source = s.source;
+    let to = s.to;
     let place = s.place;
     State {
         source: source::unfit(source),
+        to,
         place,
     }
 }

@@ -34,13 +34,7 @@ fn main(rt: HostRuntime) {
 }
 
 // One case; whether another may follow.
-fn case(
-    rt: &HostRuntime,
-    bytes: &mut [u8],
-    y0: &mut [u64],
-    a: &mut [u64],
-    out: &mut [u8],
-) -> bool {
+fn case(rt: &HostRuntime, bytes: &mut [u8], y0: &mut [u64], a: &mut [u64], out: &mut [u8]) -> bool {
     let mut lead = [0u8; 16];
     let got = input::full(&mut rt.stdin(), &mut lead);
     if got == 0 {
@@ -61,13 +55,7 @@ fn case(
 }
 
 // A form with y0 and A.
-fn form(
-    rt: &HostRuntime,
-    bytes: &mut [u8],
-    y0: &mut [u64],
-    a: &mut [u64],
-    out: &mut [u8],
-) -> bool {
+fn form(rt: &HostRuntime, bytes: &mut [u8], y0: &mut [u64], a: &mut [u64], out: &mut [u8]) -> bool {
     if !fetched(rt, bytes, 88) {
         return unfit(rt);
     }
@@ -83,14 +71,7 @@ fn form(
     if cells > a.len() {
         return unfit(rt);
     }
-    filled(
-        rt,
-        f,
-        bytes,
-        &mut y0[..places],
-        &mut a[..cells],
-        out,
-    )
+    filled(rt, f, bytes, &mut y0[..places], &mut a[..cells], out)
 }
 
 // All of y0 and A come from the input.
