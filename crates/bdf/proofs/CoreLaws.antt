@@ -2,9 +2,7 @@
 use Rattle.std.specs.Prelude.{◌≡◌, ℕ, Bool, true, false, List, [], ◌∷◌, length}
 use mathlib.Core.Path.{refl, sym, ap, subst, ◌∙◌}
 use mathlib.Core.Bool.{true≢false}
-use native.Mathlib.Omega.{arith}
 use lib.Ieee.{Float}
-use Rattle.loops.specs.Choice.{if◌then◌else◌}
 use Rattle.loops.specs.laws.ChoiceLaws.{when_true, when_false}
 use types.Run.{OneOf}
 use denote.Enum.Declared.{tag_of}
@@ -13,7 +11,7 @@ use Rattle.rules.specs.declared.types.Reply.{Reply}
 use Rattle.rules.specs.declared.types.Awaited.{Awaited}
 use Rattle.rules.specs.declared.types.Turn.{Turn}
 use Rattle.rules.specs.State.{After, after}
-use Rattle.rules.specs.laws.Ready.{Sane, Ready, Awake, Answered, Handed}
+use Rattle.rules.specs.laws.Ready.{Sane, Ready, Awake, Handed}
 use Rattle.rules.specs.Attempt.{Tried, rejected, says, main_loop}
 use Rattle.rules.specs.Step.{newton_replied}
 use Rattle.rules.specs.Replies.{wants, values_want}

@@ -1,5 +1,4 @@
 -- `aim::aim`: by the test of its definition, on the way that `aim_of` gives. Assumes nothing.
-use borrow.Author.Rules.{rules}
 use Rattle.loops.specs.Choice.{if◌then◌else◌}
 use Rattle.rules.specs.Attempt.{aimed}
 use Rattle.bdf.proofs.aim.aim.Goals as goal

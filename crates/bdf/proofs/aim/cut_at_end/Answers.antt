@@ -1,5 +1,4 @@
 -- `aim::cut_at_end`: by the test of its definition. Assumes nothing.
-use borrow.Author.Rules.{rules}
 use Rattle.loops.specs.Choice.{if◌then◌else◌}
 use Rattle.rules.specs.Attempt.{cut_at_end}
 use Rattle.bdf.proofs.aim.cut_at_end.Goals as goal

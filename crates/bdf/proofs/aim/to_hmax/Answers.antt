@@ -1,5 +1,4 @@
 -- `aim::to_hmax`: by the test of its definition. Assumes nothing.
-use borrow.Author.Rules.{rules}
 use Rattle.loops.specs.Choice.{if◌then◌else◌}
 use Rattle.rules.specs.Attempt.{to_hmax}
 use Rattle.bdf.proofs.aim.to_hmax.Goals as goal

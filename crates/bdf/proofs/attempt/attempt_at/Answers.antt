@@ -1,5 +1,4 @@
 -- `attempt::attempt_at`: the prediction, then by whether the matrix must be factored. Assumes nothing.
-use borrow.Author.Rules.{rules}
 use Rattle.loops.specs.Choice.{if◌then◌else◌}
 use Rattle.rules.specs.Attempt.{attempt_at, predicted_all}
 use Rattle.bdf.proofs.attempt.attempt_at.Goals as goal

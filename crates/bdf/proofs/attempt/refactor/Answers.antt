@@ -1,5 +1,4 @@
 -- `attempt::refactor`: by what the factoring says. Assumes nothing.
-use borrow.Author.Rules.{rules}
 use Rattle.loops.specs.Choice.{if◌then◌else◌}
 use Rattle.rules.specs.Attempt.{refactored}
 use Rattle.bdf.proofs.attempt.refactor.Goals as goal

@@ -1,5 +1,4 @@
 -- `attempt::unless_stuck`: by the test of its definition. Assumes nothing.
-use borrow.Author.Rules.{rules}
 use native.Mathlib.Omega.{arith}
 use Rattle.loops.specs.Choice.{if◌then◌else◌}
 use Rattle.rules.specs.Attempt.{unless_stuck}

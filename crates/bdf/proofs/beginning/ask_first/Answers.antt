@@ -1,5 +1,4 @@
 -- `beginning::ask_first`: the workspace laid out, and y told. Assumes nothing.
-use borrow.Author.Rules.{rules}
 use native.Mathlib.Omega.{arith}
 use Rattle.rules.specs.laws.ReadyLaws.{room_kept}
 use Rattle.rules.specs.Begin.{ask_first}

@@ -1,6 +1,5 @@
 -- `beginning::lay_tolerances` goes by the same cases as its definition. Assumes nothing.
 use native.Mathlib.Omega.{arith}
-use borrow.Author.Rules.{rules}
 use Rattle.rules.specs.laws.CheckLaws.{vector_reaches}
 use Rattle.bdf.proofs.beginning.lay_tolerances.Goals as goal
 

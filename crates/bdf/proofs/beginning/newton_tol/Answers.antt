@@ -1,5 +1,4 @@
 -- `beginning::newton_tol` goes by the same test as its definition. Assumes nothing.
-use borrow.Author.Rules.{rules}
 use Rattle.loops.specs.Choice.{if◌then◌else◌}
 use Rattle.rules.specs.Begin.{newton_tol_val}
 use Rattle.bdf.proofs.beginning.newton_tol.Goals as goal

@@ -1,5 +1,4 @@
 -- `checks::checked` goes by the tests of its definition, one answer a way. Assumes nothing.
-use borrow.Author.Rules.{rules}
 use borrow.Author.Tests.{lt-ltb, le-ltb}
 use Rattle.loops.specs.Choice.{if◌then◌else◌}
 use Rattle.rules.specs.Checks.{checked}

@@ -1,7 +1,5 @@
 -- `checks::tolerances_checked` goes by the tests of its definition, one answer a way. Assumes nothing.
-use Rattle.std.specs.Prelude.{◌≡◌}
 use mathlib.Core.Path.{sym, ◌∙◌}
-use borrow.Author.Rules.{rules}
 use Rattle.loops.specs.Choice.{if◌then◌else◌}
 use Rattle.rules.specs.Checks.{tolerances_checked}
 use Rattle.bdf.proofs.checks.tolerances_checked.Goals as goal

@@ -1,5 +1,4 @@
 -- `checks::zero_step` goes by the same cases and test as its definition. Assumes nothing.
-use borrow.Author.Rules.{rules}
 use Rattle.loops.specs.Choice.{if◌then◌else◌}
 use Rattle.bdf.proofs.checks.zero_step.Goals as goal
 

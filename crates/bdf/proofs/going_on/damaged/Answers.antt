@@ -1,5 +1,4 @@
 -- `going_on::damaged` goes by the tests of its definition, one answer a way. Assumes nothing.
-use borrow.Author.Rules.{rules}
 use native.Mathlib.Omega.{arith}
 use borrow.Author.Tests.{lt-ltb, le-ltb, eq-eqb, ne_eqb}
 use Rattle.loops.specs.Choice.{if◌then◌else◌}

@@ -1,6 +1,4 @@
 -- `going_on::go_checked` goes by the tests of its definition, one answer a way. Assumes nothing.
-use borrow.Author.Rules.{rules}
-use Rattle.std.specs.Prelude.{◌≡◌}
 use mathlib.Core.Path.{sym, ◌∙◌}
 use Rattle.loops.specs.Choice.{if◌then◌else◌}
 use Rattle.rules.specs.GoOn.{go_checked}

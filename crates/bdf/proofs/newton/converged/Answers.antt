@@ -1,5 +1,4 @@
 -- `newton::converged`: the tests of its definition. Assumes nothing.
-use borrow.Author.Rules.{rules}
 use Rattle.loops.specs.Choice.{if◌then◌else◌}
 use Rattle.rules.specs.Newton.{converged}
 use Rattle.rules.specs.laws.NewtonLaws.{follows_on, follows_never, follows_none}
@@ -19,6 +18,6 @@ pub returns : goal.returns
 unfolding converged if◌then◌else◌
 returns c =
     elim c.else-iters-gt0.branch [
-      else-iters-gt0-via-then-iters-gt0+else-prev w ↦ rw (c.if-norm.false, follows_never c.args.iters c.args.prev w.if-prev.false)
-    | else-iters-gt0-via-else-iters-gt0 w ↦ rw (c.if-norm.false, follows_none c.args.iters c.args.prev w.if-iters-gt0.false)
+      | else-iters-gt0-via-then-iters-gt0+else-prev w ↦ rw (c.if-norm.false, follows_never c.args.iters c.args.prev w.if-prev.false)
+      | else-iters-gt0-via-else-iters-gt0 w ↦ rw (c.if-norm.false, follows_none c.args.iters c.args.prev w.if-iters-gt0.false)
     ]

@@ -1,5 +1,4 @@
 -- `newton::solve_by`: b takes the right side, lin_solve puts the solution in its place, and rhs takes that. Assumes nothing.
-use borrow.Author.Rules.{rules}
 use Rattle.std.specs.Prelude.{◌≡◌, ℕ, ◌+◌, ◌-◌, ◌*◌, ◌≤◌, List, length, take}
 use mathlib.Core.Path.{◌∙◌}
 use native.Mathlib.Omega.{arith}

@@ -1,5 +1,4 @@
 -- `newton::too_slow`: the test of its definition. Assumes nothing.
-use borrow.Author.Rules.{rules}
 use Rattle.loops.specs.Choice.{if◌then◌else◌}
 use Rattle.rules.specs.Newton.{too_slow}
 use Rattle.bdf.proofs.newton.too_slow.Goals as goal

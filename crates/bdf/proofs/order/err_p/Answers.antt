@@ -1,5 +1,4 @@
 -- `order::err_p`: the test of its definition. Assumes nothing.
-use borrow.Author.Rules.{rules}
 use borrow.Author.Tests.{lt-ltb, le-ltb}
 use Rattle.loops.specs.Choice.{if◌then◌else◌}
 use Rattle.rules.specs.Order.{err_p}

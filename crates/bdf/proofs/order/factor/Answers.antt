@@ -1,6 +1,5 @@
 -- `order::factor`: for k from 1 to 7 the inverse root is given and not refused. Assumes nothing.
 use Rattle.std.specs.Prelude.{◌≡◌, ℕ, ◌≤◌}
-use borrow.Author.Rules.{rules}
 use borrow.Author.Tests.{le-leb}
 use lib.Ieee.{Float}
 use Rattle.loops.specs.Choice.{if◌then◌else◌}

@@ -1,5 +1,4 @@
 -- `predict::scale_of`: the test of its definition, both ways. Assumes nothing.
-use borrow.Author.Rules.{rules}
 use Rattle.loops.specs.Choice.{if◌then◌else◌}
 use Rattle.rules.specs.Predict.{scale_of}
 use Rattle.bdf.proofs.predict.scale_of.Goals as goal

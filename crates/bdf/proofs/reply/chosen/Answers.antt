@@ -1,5 +1,4 @@
 -- `reply::chosen`: by whether the order changed; either way the state is ready with the new one. Assumes nothing.
-use borrow.Author.Rules.{rules}
 use Rattle.std.specs.Prelude.{[]}
 use borrow.Author.Tests.{eq-eqb, ne_eqb}
 use Rattle.loops.specs.Choice.{if◌then◌else◌}

@@ -1,5 +1,4 @@
 -- `reply::failed_turn`: its callees one after the other. The attempt under way was not rejected before, so it may be now. Assumes nothing.
-use borrow.Author.Rules.{rules}
 use mathlib.Core.Path.{◌∙◌}
 use Rattle.std.specs.Prelude.{[]}
 use Rattle.rules.specs.Reply.{failed_turn}

@@ -1,5 +1,4 @@
 -- `reply::ordered`: its callees one after the other. The order chosen is one of 1 to 5. Assumes nothing.
-use borrow.Author.Rules.{rules}
 use mathlib.Core.Path.{◌∙◌}
 use Rattle.rules.specs.laws.ReadyLaws.{room_kept}
 use Rattle.rules.specs.laws.OrderLaws.{choice_within}

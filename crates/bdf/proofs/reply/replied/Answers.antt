@@ -1,5 +1,4 @@
 -- `reply::replied`: by the place. The reply suits it, so it brings the values that the place asked. Assumes nothing.
-use borrow.Author.Rules.{rules}
 use mathlib.Core.Path.{refl, ◌∙◌}
 use Rattle.std.specs.Prelude.{[]}
 use Rattle.rules.specs.laws.ReplyLaws.{values_brought}

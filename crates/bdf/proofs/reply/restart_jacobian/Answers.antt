@@ -1,5 +1,4 @@
 -- `reply::restart_jacobian`: its callees one after the other. Assumes nothing.
-use borrow.Author.Rules.{rules}
 use Rattle.std.specs.Prelude.{[]}
 use Rattle.rules.specs.Reply.{restart_jacobian}
 use Rattle.rules.specs.laws.ReplyLaws.{stored_ready, outdated_ready}

@@ -1,5 +1,4 @@
 -- `reply::stepped`: by its two tests. Assumes nothing.
-use borrow.Author.Rules.{rules}
 use Rattle.std.specs.Prelude.{[]}
 use borrow.Author.Tests.{lt-ltb, le-ltb}
 use Rattle.loops.specs.Choice.{if◌then◌else◌}

@@ -2,7 +2,6 @@
 use Rattle.std.specs.Prelude.{◌+◌, ◌*◌, ◌≤◌}
 use native.Mathlib.Omega.{arith}
 use native.Mathlib.Nat.{min-eq_left}
-use borrow.Author.Rules.{rules}
 use Rattle.loops.specs.Choice.{if◌then◌else◌}
 use Rattle.loops.specs.laws.RowLaws.{row_within}
 use Rattle.rules.specs.Rescale.{change_d, rescaled}
@@ -17,7 +16,7 @@ returns-then-factor c = rw c.if-factor.true
 -- LOST     let args = c.before.before.before.before.before.before.before.before.args in
 -- LOST     let below : args.order * args.n + args.n ≤ 6 * args.n = row_within args.n (omega arith) in
 -- LOST     omega arith
--- LOST 
+-- LOST
 
 pub load-requires : goal.load-requires
 load-requires c =

@@ -1,5 +1,4 @@
 -- `starting::first_guess`: the bound of its definition, both ways. Assumes nothing.
-use borrow.Author.Rules.{rules}
 use Rattle.loops.specs.Choice.{if◌then◌else◌}
 use Rattle.rules.specs.Starting.{first_guess}
 use Rattle.bdf.proofs.starting.first_guess.Goals as goal

@@ -1,5 +1,4 @@
 -- `starting::h1`: the test of its definition, both ways. Assumes nothing.
-use borrow.Author.Rules.{rules}
 use Rattle.loops.specs.Choice.{if◌then◌else◌}
 use Rattle.rules.specs.Starting.{h1}
 use Rattle.bdf.proofs.starting.h1.Goals as goal

@@ -1,5 +1,4 @@
 -- `starting::raw_guess`: the two tests of its definition, each way. Where the first passes, so does the whole. Assumes nothing.
-use borrow.Author.Rules.{rules}
 use Rattle.loops.specs.Choice.{if◌then◌else◌}
 use Rattle.rules.specs.Starting.{raw_guess}
 use Rattle.bdf.proofs.starting.raw_guess.Goals as goal

@@ -1,5 +1,4 @@
 -- `starting::within_span`: the test of its definition, both ways. Assumes nothing.
-use borrow.Author.Rules.{rules}
 use Rattle.loops.specs.Choice.{if◌then◌else◌}
 use Rattle.rules.specs.Starting.{within_span}
 use Rattle.bdf.proofs.starting.within_span.Goals as goal

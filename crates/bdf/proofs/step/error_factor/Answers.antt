@@ -1,5 +1,4 @@
 -- `step::error_factor`: by the test of its definition; NaN differs from itself. Assumes nothing.
-use borrow.Author.Rules.{rules}
 use Rattle.loops.specs.Choice.{if◌then◌else◌}
 use Rattle.loops.specs.laws.FloatLaws.{nan_by}
 use Rattle.rules.specs.Step.{error_factor}

@@ -1,5 +1,4 @@
 -- `step::iterated`: by the two tests on the norm of the correction. Assumes nothing.
-use borrow.Author.Rules.{rules}
 use Rattle.loops.specs.Choice.{if◌then◌else◌}
 use Rattle.rules.specs.Step.{iterated}
 use Rattle.bdf.proofs.step.iterated.Goals as goal

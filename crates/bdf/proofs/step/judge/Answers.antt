@@ -1,5 +1,4 @@
 -- `step::judge`: by the test on the error norm. Assumes nothing.
-use borrow.Author.Rules.{rules}
 use Rattle.loops.specs.Choice.{if◌then◌else◌}
 use Rattle.rules.specs.Step.{error_ws, judged}
 use Rattle.bdf.proofs.step.judge.Goals as goal
