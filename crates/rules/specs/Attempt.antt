@@ -1,6 +1,6 @@
 -- The main loop's body as far as its first question: the step is fitted between its bounds and to the end, the prediction
 -- made, the matrix factored where it must be, and the first Newton derivative asked.
-use Rattle.std.specs.Prelude.{List, Bool, true, false, not, ◌&&◌, ◌||◌, ℕ, zero, suc, ◌+◌, ◌-◌, ◌*◌, leb, Float}
+use Rattle.std.specs.Prelude.{List, Bool, true, not, ◌&&◌, ◌||◌, ℕ, zero, suc, ◌+◌, ◌-◌, ◌*◌, leb, Float}
 use Rattle.std.specs.Float.Ieee
 use Rattle.loops.specs.Choice.{if◌then◌else◌}
 use Rattle.loops.specs.Cell.{at}

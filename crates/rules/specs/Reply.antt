@@ -1,5 +1,5 @@
 -- A run from one reply to the next answer, by the place in `solve` at which it waited.
-use Rattle.std.specs.Prelude.{List, false, ℕ, ◌+◌, ◌*◌, ltb, eqb, Float}
+use Rattle.std.specs.Prelude.{List, false, ℕ, ◌*◌, ltb, eqb, Float}
 use Rattle.std.specs.Float.Ieee
 use Rattle.loops.specs.Choice.{if◌then◌else◌}
 use Rattle.loops.specs.Loop.{loop}

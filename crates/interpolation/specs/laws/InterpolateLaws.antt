@@ -1,7 +1,6 @@
 -- What holds of the interpolation's definitions whatever the numbers are.
 use Rattle.std.specs.Prelude.{◌≡◌, Bool, true, false, ℕ, ◌≤◌, Float}
 use Rattle.std.proofs.Common.{arith}
-use Rattle.std.specs.Float.Ieee
 use Rattle.loops.specs.Choice.{if◌then◌else◌}
 use Rattle.loops.specs.laws.ChoiceLaws.{either}
 use Rattle.interpolation.specs.Interpolate.{order_of}

@@ -1,7 +1,7 @@
 -- What an attempt comes to, whatever the floats are: read off the definition test by test.
-use Rattle.std.specs.Prelude.{◌≡◌, List, Bool, true, false, ◌≤◌, ◌<◌, Float}
+use Rattle.std.specs.Prelude.{◌≡◌, List, Bool, ◌≤◌, ◌<◌, Float}
 use Rattle.std.proofs.Math.Path.{refl}
-use Rattle.std.proofs.Common.{sym, ◌∙◌, true≢false, inl, inr, le_trans, arith, leb-true, leb-false, le-leb}
+use Rattle.std.proofs.Common.{inl, inr, le_trans, arith, leb-true, leb-false, le-leb}
 use Rattle.loops.specs.Choice.{if◌then◌else◌}
 use Rattle.loops.specs.laws.ChoiceLaws.{either, when_true}
 use Rattle.rules.specs.Types.{Progress, Pace, Success, NeedLargerNMax, StepSizeTooSmall}

@@ -1,7 +1,7 @@
 -- What the main loop says, whatever the floats are, and its one turn: an attempt, and the same again where it was rejected.
 use Rattle.std.specs.Prelude.{◌≡◌, List, ℕ, zero, suc, ◌-◌, ◌≤◌, ◌<◌, length, Float}
 use Rattle.std.proofs.Math.Path.{refl, ap}
-use Rattle.std.proofs.Common.{sym, ◌∙◌, add-one}
+use Rattle.std.proofs.Common.{add-one}
 use native.Mathlib.Omega.{arith}
 use Rattle.rules.specs.Types.{Progress, Turn}
 use Rattle.rules.specs.State.{After, after}

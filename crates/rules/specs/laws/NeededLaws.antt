@@ -1,5 +1,5 @@
 -- The needed places of a workspace: they have the room that the stages ask, and work on them leaves what lies beyond.
-use Rattle.std.specs.Prelude.{◌≡◌, List, ◌++◌, ℕ, ◌+◌, ◌*◌, ◌≤◌, length, take, Float}
+use Rattle.std.specs.Prelude.{◌≡◌, List, ◌++◌, ℕ, ◌*◌, ◌≤◌, length, take, Float}
 use Rattle.std.proofs.Common.{ap, mul-le-mul, arith, length-take-le}
 use Rattle.matrix.specs.Size.{max_n}
 use Rattle.rules.specs.Places.{need}

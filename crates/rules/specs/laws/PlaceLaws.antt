@@ -1,5 +1,5 @@
 -- Every reply keeps how the counters stand: place by place, read off the definition, whatever the floats are.
-use Rattle.std.specs.Prelude.{◌≡◌, List, ◌∷◌, Bool, true, ℕ, ◌+◌, ◌-◌, ◌≤◌, ◌<◌, length, Float}
+use Rattle.std.specs.Prelude.{◌≡◌, List, ◌∷◌, Bool, ℕ, ◌+◌, ◌-◌, ◌≤◌, ◌<◌, length, Float}
 use Rattle.std.proofs.Math.Path.{refl}
 use Rattle.std.proofs.Math.Bool.{false}
 use Rattle.std.proofs.lemmas.Bool.{false≢true}

@@ -1,5 +1,5 @@
 -- What a reply's stages leave to the next: a state that is still ready, and how many values a reply brought.
-use Rattle.std.specs.Prelude.{◌≡◌, refl, List, true, ℕ, ◌+◌, ◌≤◌, length, Float}
+use Rattle.std.specs.Prelude.{◌≡◌, refl, List, ℕ, ◌+◌, ◌≤◌, length, Float}
 use Rattle.std.proofs.Common.{sym, arith}
 use Rattle.std.proofs.Math.Path.{ap}
 use Rattle.rules.specs.Types.{Progress, Pace, Reply, Awaited, Values, Continue, Interrupt, Modified}

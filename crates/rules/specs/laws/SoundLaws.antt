@@ -1,5 +1,5 @@
 -- In every exchange the state is sound, by how its counters stand: so it is not damaged.
-use Rattle.std.specs.Prelude.{◌≡◌, refl, List, true, false, ℕ, ◌-◌, ◌≤◌}
+use Rattle.std.specs.Prelude.{◌≡◌, refl, List, true, false, ℕ, ◌≤◌}
 use Rattle.std.proofs.Common.{sym, true≢false, arith}
 use Rattle.loops.specs.Choice.{if◌then◌else◌}
 use Rattle.rules.specs.Types.{Answer, Progress, Run, Awaited, FirstDerivative, FirstJacobian, StartDerivative, StartNotice, ModifiedStartDerivative, ModifiedStartJacobian, NewtonDerivative, FailedJacobian, StepNotice, ModifiedStepDerivative, ModifiedStepJacobian, OrderJacobian, Ended}

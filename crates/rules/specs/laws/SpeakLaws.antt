@@ -2,15 +2,13 @@
 -- and so is what was written over the slice's first places. And no stage answers with a refusal, and the state that it leaves waits
 -- for what its answer asks for. (How the counters go through the same stages is in PlaceLaws.antt: it asks how they stand before,
 -- and this asks nothing of a state.)
-use Rattle.std.specs.Prelude.{◌≡◌, List, [], ◌∷◌, true, false, ℕ, zero, suc, ◌*◌, length, Float}
+use Rattle.std.specs.Prelude.{◌≡◌, List, [], ◌∷◌, ℕ, zero, suc, ◌*◌, length, Float}
 use Rattle.std.proofs.Math.Path.{refl}
 use Rattle.std.proofs.Common.{ap, subst, arith}
-use Rattle.std.proofs.lemmas.Bool.{false≢true}
-use Rattle.loops.specs.Choice.{if◌then◌else◌}
 use Rattle.rules.specs.Types.{Progress, Turn, Awaited, Reply, Tolerance, Setting, Unset, Given, Values, Continue, Interrupt, Modified}
 use Rattle.rules.specs.Types.{FirstDerivative, FirstJacobian, StartDerivative, StartNotice, ModifiedStartDerivative, ModifiedStartJacobian, NewtonDerivative, FailedJacobian, StepNotice, ModifiedStepDerivative, ModifiedStepJacobian, OrderJacobian, Ended}
 use Rattle.rules.specs.Places.{need, y, y1, y_new, y_predict}
-use Rattle.rules.specs.State.{After, after}
+use Rattle.rules.specs.State.{After}
 use Rattle.rules.specs.Replies.{values_want, wants}
 use Rattle.rules.specs.Attempt.{attempt, fitted_attempt, aimed, headed, unless_stuck, halved, attempt_at, refactored, newton_start, Tried, rejected, says, onward, tries, main_loop}
 use Rattle.rules.specs.Moves.{loaded}

@@ -1,5 +1,5 @@
 -- What the definitions give at some numbers that are easily got wrong, by computation.
-use Rattle.std.specs.Prelude.{◌≡◌, refl, true, false, [], ◌∷◌, pos, negsuc}
+use Rattle.std.specs.Prelude.{◌≡◌, refl, true, [], ◌∷◌, pos, negsuc}
 use Rattle.std.specs.Float.{nan, fin}
 use Rattle.std.specs.Float.Ieee.{to_bits}
 use Rattle.loops.specs.Choice.{if◌then◌else◌}

@@ -1,6 +1,5 @@
 -- `polynomial::interpolate` goes by the tests of its definition, one answer a way; past them its callees compute the values.
 -- Assumes nothing.
-use borrow.Author.Rules.{rules}
 use borrow.Author.Tests.{lt-ltb, le-ltb, eq-eqb, ne_eqb}
 use Rattle.loops.specs.Choice.{if◌then◌else◌}
 use Rattle.interpolation.specs.Interpolate.{interpolation, values_at}

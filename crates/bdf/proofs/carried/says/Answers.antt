@@ -1,0 +1,7 @@
+-- `carried::says`: its fields. Assumes nothing.
+use mathlib.Core.Path.{refl}
+use Rattle.bdf.proofs.carried.says.Goals as goal
+
+pub returns : goal.returns
+returns c =
+    λ pivot. refl
