@@ -8,9 +8,8 @@ use Rattle.rules.specs.declared.types.Awaited.{Awaited}
 use Rattle.rules.specs.declared.types.Awaited.TheVariants.{FirstDerivative, FirstJacobian, StartDerivative, StartNotice, ModifiedStartDerivative, ModifiedStartJacobian, NewtonDerivative, FailedJacobian, StepNotice, ModifiedStepDerivative, ModifiedStepJacobian, OrderJacobian, Ended}
 use Rattle.rules.specs.State.{After, after}
 use Rattle.rules.specs.laws.Ready.{Ready}
-use Rattle.rules.specs.Attempt.{Tried, rejected, says}
+use Rattle.rules.specs.Attempt.{Tried, rejected, says, rest}
 use Rattle.rules.specs.Reply.{stepped}
-use Rattle.rules.specs.laws.MainLoopLaws.{rest}
 use Rattle.rules.specs.declared.stages.Factors.{Factors}
 use Rattle.bdf.specs.declared.carried.Core.{Core}
 use Rattle.bdf.specs.declared.carried.Outcome.{Outcome}

@@ -10,7 +10,7 @@ use Rattle.rules.specs.Answers.{is_question_or_notice}
 use Rattle.rules.specs.Places.{need}
 use Rattle.rules.specs.State.{After}
 use Rattle.rules.specs.Calls.{Configuration, beginning, size}
-use Rattle.rules.specs.promises.RunEnds.{most}
+use Rattle.rules.specs.Bounds.{most}
 use Rattle.lines.specs.Lines.{start_line, step_line, end_line, refusal_line}
 use Rattle.job.specs.Reading.{ReadOutcome, read_of, configuration_of}
 use Rattle.listing.specs.Types.{Answer, Derivative, Jacobian, Start, Step, End, Refused, Evals, Steps, Turn}

@@ -200,3 +200,7 @@ attempts_left p = (p.limits.steps - p.steps.total) + 1
 
 unfoldable pub main_loop : Progress → List Float → List Float → After Turn
 main_loop p ws q = tries (attempts_left p) p ws q
+
+-- what an attempt leaves to do: the loop again, or nothing
+abbrev pub rest : Tried → List Float → List Float → After Turn
+rest t ws q = onward main_loop t ws q

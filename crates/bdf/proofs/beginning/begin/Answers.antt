@@ -4,7 +4,7 @@ use native.Mathlib.Omega.{arith}
 use borrow.Author.Tests.{lt-ltb, le-ltb, eq-eqb, ne_eqb}
 use Rattle.loops.specs.Choice.{if◌then◌else◌}
 use Rattle.rules.specs.Begin.{begin_of}
-use Rattle.rules.specs.laws.CheckLaws.{cleared}
+use Rattle.rules.proofs.laws.CheckLaws.{cleared}
 use Rattle.bdf.proofs.beginning.begin.Goals as goal
 
 pub returns-then-n-gt-MAX_N : goal.returns-then-n-gt-MAX_N

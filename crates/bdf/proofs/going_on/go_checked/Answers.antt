@@ -2,7 +2,7 @@
 use mathlib.Core.Path.{sym, ◌∙◌}
 use Rattle.loops.specs.Choice.{if◌then◌else◌}
 use Rattle.rules.specs.GoOn.{go_checked}
-use Rattle.rules.specs.laws.GoOnLaws.{few_undamaged}
+use Rattle.rules.proofs.laws.GoOnLaws.{few_undamaged}
 use Rattle.bdf.proofs.going_on.go_checked.Goals as goal
 
 pub returns-then-damaged : goal.returns-then-damaged

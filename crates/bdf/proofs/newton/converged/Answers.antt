@@ -1,7 +1,7 @@
 -- `newton::converged`: the tests of its definition. Assumes nothing.
 use Rattle.loops.specs.Choice.{if◌then◌else◌}
 use Rattle.rules.specs.Newton.{converged}
-use Rattle.rules.specs.laws.NewtonLaws.{follows_on, follows_never, follows_none}
+use Rattle.rules.proofs.laws.NewtonLaws.{follows_on, follows_never, follows_none}
 use Rattle.bdf.proofs.newton.converged.Goals as goal
 use Rattle.bdf.proofs.newton.converged.Goals.{else-iters-gt0-via-then-iters-gt0+else-prev, else-iters-gt0-via-else-iters-gt0}
 

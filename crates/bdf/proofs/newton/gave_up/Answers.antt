@@ -2,7 +2,7 @@
 use mathlib.Core.Path.{◌∙◌}
 use Rattle.loops.specs.Choice.{if◌then◌else◌}
 use Rattle.rules.specs.Newton.{gave_up}
-use Rattle.rules.specs.laws.NewtonLaws.{follows_on, follows_never, follows_none}
+use Rattle.rules.proofs.laws.NewtonLaws.{follows_on, follows_never, follows_none}
 use Rattle.bdf.proofs.newton.gave_up.Goals as goal
 use Rattle.bdf.proofs.newton.gave_up.Goals.{else-iters-gt0-via-then-iters-gt0+else-prev, else-iters-gt0-via-else-iters-gt0, then-too_slow, else-too_slow}
 

@@ -2,9 +2,9 @@
 use Rattle.std.specs.Prelude.{[]}
 use borrow.Author.Tests.{eq-eqb, ne_eqb}
 use Rattle.loops.specs.Choice.{if◌then◌else◌}
-use Rattle.rules.specs.laws.ReadyLaws.{room_kept}
+use Rattle.rules.proofs.laws.ReadyLaws.{room_kept}
 use Rattle.rules.specs.Reply.{chosen}
-use Rattle.rules.specs.laws.ReplyLaws.{ordered_ready}
+use Rattle.rules.proofs.laws.ReplyLaws.{ordered_ready}
 use Rattle.bdf.proofs.CoreLaws.{again_prepared, again_rest, spoken_prepared, spoken_rest}
 use Rattle.bdf.proofs.reply.chosen.Goals as goal
 
