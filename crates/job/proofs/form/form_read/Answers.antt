@@ -1,11 +1,10 @@
 -- `form::form_read` meets its contract: each refusal is the definition's, in the same order. Assumes nothing.
 use mathlib.Core.Path.{◌≡◌, sym, ap, ◌∙◌}
-use mathlib.Core.Bool.{Bool, true, false, not}
+use mathlib.Core.Bool.{Bool, true, false}
 use mathlib.Core.List.{List}
 use Prim.Native.Nat.{ℕ, ◌≤◌, ◌<◌}
 use native.Mathlib.Omega.{arith}
 use lib.ListN.{length}
-use borrow.Author.Rules.{rules}
 use borrow.Author.Tests.{lt-ltb, le-ltb}
 use Rattle.loops.specs.laws.ChoiceLaws.{when_true, when_false}
 use Rattle.loops.specs.Refusal.{Outcome, gives, refuses}

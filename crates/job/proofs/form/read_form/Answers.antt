@@ -5,7 +5,6 @@ use mathlib.Core.List.{List, ◌++◌}
 use Prim.Native.Nat.{ℕ, ◌+◌, ◌*◌}
 use native.Mathlib.Omega.{arith}
 use lib.ListN.{drop}
-use borrow.Author.Rules.{rules}
 use Rattle.loops.specs.Refusal.{gives, refuses}
 use Rattle.job.specs.declared.form.Form.{Form}
 use Rattle.job.specs.declared.form.FormReading.{FormReading}

@@ -6,7 +6,6 @@ use Prim.Native.Nat.{ℕ, ◌+◌, ◌*◌}
 use native.Mathlib.Omega.{arith}
 use lib.ListN.{drop}
 use lib.Ieee.{Float}
-use borrow.Author.Rules.{rules}
 use Rattle.loops.specs.Refusal.{gives, refuses}
 use Rattle.job.specs.declared.form.Form.{Form}
 use Rattle.job.specs.declared.form.FormReading.{FormReading}

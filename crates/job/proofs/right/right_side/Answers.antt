@@ -1,13 +1,12 @@
 -- `right::right_side` meets its contract: where the sizes agree the rows are computed, and else nothing is written.
 -- Assumes nothing.
 use mathlib.Core.Path.{◌≡◌, sym, ◌∙◌}
-use mathlib.Core.Bool.{Bool, true, false, not}
+use mathlib.Core.Bool.{Bool, true, false}
 use mathlib.Core.List.{List}
 use Prim.Native.Nat.{ℕ, ◌*◌, ◌≤◌}
 use lib.Dec.{leb, eqb}
 use lib.ListN.{length}
 use lib.Ieee.{Float}
-use borrow.Author.Rules.{rules}
 use borrow.Author.Tests.{leb-true, eqb-true}
 use Rattle.loops.specs.laws.ChoiceLaws.{when_true, when_false, and_first, and_second}
 use Rattle.job.specs.Types.{max_n}

@@ -1,6 +1,4 @@
 -- `writer::fits` meets its contract: the code's tests are those of the definition, in its order. Assumes nothing.
-use native.Mathlib.Nat.{mul-le-mul}
-use native.Mathlib.Omega.{arith}
 use borrow.Author.Tests.{eq-eqb, ne_eqb, lt-ltb, le-ltb}
 use Rattle.job.specs.Writing.{fits_of}
 use Rattle.job.proofs.writer.fits.Goals as goal
@@ -11,7 +9,7 @@ returns-then-places-n c = rw (ne_eqb _ _ c.if-places-n.true)
 
 -- LOST mul-if2 : tie.Need-overflow-mul-if2
 -- LOST mul-if2 c = omega (arith, mul-le-mul c.before.requires c.before.requires)
--- LOST 
+-- LOST
 
 pub returns-then-cells-n : goal.returns-then-cells-n
 unfolding fits_of

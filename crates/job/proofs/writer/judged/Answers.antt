@@ -1,6 +1,5 @@
 -- `writer::judged` meets its contract: the refusals are the definition's, in its order. Assumes nothing.
 use mathlib.Core.Path.{sym, ◌∙◌}
-use borrow.Author.Rules.{rules}
 use borrow.Author.Tests.{lt-ltb, le-ltb}
 use Rattle.loops.specs.laws.ChoiceLaws.{when_true, when_false}
 use Rattle.job.specs.Writing.{judged_of}

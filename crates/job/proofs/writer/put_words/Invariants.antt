@@ -1,17 +1,9 @@
-use mathlib.Core.Path.{◌≡◌, refl, ap, ◌∙◌}
+use mathlib.Core.Path.{◌≡◌}
 use mathlib.Core.List.{List}
-use Prim.Native.Nat.{ℕ, ◌≤◌, ◌<◌, ◌+◌, ◌*◌, ◌-◌}
-use native.Mathlib.Omega.{arith}
-use lib.ListN.{length, take, get_or}
-use lib.Seq.{take_all}
-use Rattle.text.specs.declared.page.Place.{Place}
-use Rattle.text.specs.declared.page.Place.TheVariants.{At}
-use Rattle.text.specs.Page.{Page, puts}
-use Rattle.text.specs.Words.{bytes_of}
-use Rattle.text.specs.laws.PageLaws.{laid, puts_whole}
-use Rattle.text.specs.laws.WordLaws.{length_bytes}
+use Prim.Native.Nat.{ℕ, ◌≤◌, ◌-◌}
+use lib.ListN.{length, take}
+use Rattle.text.specs.laws.PageLaws.{laid}
 use Rattle.job.specs.Writing.{joined}
-use Rattle.job.specs.laws.LaidLaws.{laid_word, laid_none, length_laid_words}
 use Rattle.job.proofs.writer.put_words.Given as goal
 
 -- the words passed are laid; the page stays as long as it was
