@@ -31,9 +31,5 @@ loop-k-preserved c =
 pub returns : goal.returns
 returns c = all_loaded _ _ _ _ _ (omega arith) c.loop-k.invariant.1
 
--- LOST mul-to : tie.Need-overflow-mul-to invariant-loop decreases-loop
--- LOST mul-to c = omega (arith, c.before.before.loop.invariant.1.size)
--- LOST
-
 pub shape_of-to : goal.shape_of-to
 shape_of-to c = omega (arith, c.loop-k.invariant.1.size)

@@ -26,10 +26,6 @@ overflow_mul-sum c = omega (arith, small c.requires.0 c.requires.1.0 c.loop-c-te
 pub overflow_add-sum : goal.overflow_add-sum
 overflow_add-sum c = omega (arith, small c.requires.0 c.requires.1.0 c.loop-c-test.true)
 
--- LOST mul-sum-2 : tie.Need-overflow-mul-sum-2 invariant-loop decreases-loop
--- LOST mul-sum-2 c = omega (arith, small c.before.before.requires.0 c.before.before.requires.1.0 c.loop-test.true)
--- LOST
-
 pub bounds-a-i : goal.bounds-a-i
 bounds-a-i c = omega (arith, small c.requires.0 c.requires.1.0 c.loop-c-test.true)
 

@@ -7,10 +7,6 @@ pub returns-then-n-gt-MAX_N : goal.returns-then-n-gt-MAX_N
 unfolding sized_of
 returns-then-n-gt-MAX_N c = rw (lt-leb _ _ c.if-n-gt-MAX_N.true)
 
--- LOST mul-if2 : tie.Need-overflow-mul-if2
--- LOST mul-if2 c = omega (arith, mul-le-mul c.if1.false c.if1.false)
--- LOST
-
 pub returns-then-cells-n : goal.returns-then-cells-n
 unfolding sized_of
 returns-then-cells-n c = rw (le-leb _ _ c.if-n-gt-MAX_N.false, ne_eqb _ _ c.if-cells-n.true)

@@ -7,10 +7,6 @@ pub returns-then-places-n : goal.returns-then-places-n
 unfolding fits_of
 returns-then-places-n c = rw (ne_eqb _ _ c.if-places-n.true)
 
--- LOST mul-if2 : tie.Need-overflow-mul-if2
--- LOST mul-if2 c = omega (arith, mul-le-mul c.before.requires c.before.requires)
--- LOST
-
 pub returns-then-cells-n : goal.returns-then-cells-n
 unfolding fits_of
 returns-then-cells-n c = rw (eq-eqb _ _ c.if-places-n.false, ne_eqb _ _ c.if-cells-n.true)
