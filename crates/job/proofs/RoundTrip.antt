@@ -27,7 +27,7 @@ use Rattle.job.specs.Writing.{packed_of, judged_of, WriteOutcome, written_over, 
 use Rattle.job.specs.JobFile.{Reads, Begins, JobFile, OfWords}
 use Rattle.job.specs.laws.ReadingLaws.{refuses_nothing, words_long, values_long}
 use Rattle.job.specs.laws.FitLaws.{Fits, fits_test, test_fits}
-use Rattle.job.specs.laws.PackedLaws.{length_packed, packed_small, read_packed, y0_packed, a_packed, Found, packed_read}
+use Rattle.job.proofs.PackedLaws.{length_packed, packed_small, read_packed, y0_packed, a_packed, Found, packed_read}
 use Rattle.job.specs.laws.BeginningLaws.{passed_begins, begins_passed, refused_begins}
 use Rattle.job.specs.laws.JudgedLaws.{Accepted, judged_accepts, accepted_judged}
 
