@@ -12,7 +12,7 @@ use Rattle.rules.specs.Calls.{beginning}
 use Rattle.job.specs.declared.reader.Reading.{Reading}
 use Rattle.job.specs.declared.reader.Reading.TheVariants.{Read, Refused}
 use Rattle.job.specs.Reading.{ReadOutcome, reading_of, configuration_of}
-use Rattle.job.specs.laws.ReadingLaws.{read_serves}
+use Rattle.job.proofs.Serving.{read_serves}
 use Rattle.listing.specs.Types.{Job}
 use Rattle.listing.specs.Printed.{reading}
 use Rattle.listing.specs.Pages.{refused_of, begun_with, opened_from, opened}
