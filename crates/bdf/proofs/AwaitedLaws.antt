@@ -1,12 +1,12 @@
 -- What an arm of a `match` with several places tells: the place is one of them, known by its number in the declaration.
-use Rattle.core.specs.Prelude.{◌≡◌, ℕ, List, [], ◌∷◌, get_or}
+use Rattle.std.specs.Prelude.{◌≡◌, ℕ, List, [], ◌∷◌, get_or}
 use mathlib.Core.Path.{refl, sym, subst}
 use mathlib.Core.Logic.{inl, inr}
 use types.Run.{OneOf}
 use denote.Enum.Declared.{tag_of}
 use Rattle.rules.specs.declared.types.Awaited.{Awaited}
 use Rattle.rules.specs.declared.types.Awaited.TheVariants.{FirstDerivative, FirstJacobian, StartDerivative, StartNotice, ModifiedStartDerivative, ModifiedStartJacobian, NewtonDerivative, FailedJacobian, StepNotice, ModifiedStepDerivative, ModifiedStepJacobian, OrderJacobian, Ended}
-use Rattle.bdf.proofs.types.Awaited.{the_type}
+use Rattle.rules.specs.contracts.types.Awaited.{the_type}
 
 -- the place with a number
 abbrev pub placed : ℕ → Awaited

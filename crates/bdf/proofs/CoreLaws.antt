@@ -1,5 +1,5 @@
 -- What a state without its pivots and a stage's outcome tell of the definitions, which have the pivots inside.
-use Rattle.core.specs.Prelude.{◌≡◌, ℕ, Bool, true, false, List, [], ◌∷◌, length}
+use Rattle.std.specs.Prelude.{◌≡◌, ℕ, Bool, true, false, List, [], ◌∷◌, length}
 use mathlib.Core.Path.{refl, sym, ap, subst, ◌∙◌}
 use mathlib.Core.Bool.{true≢false}
 use native.Mathlib.Omega.{arith}
@@ -20,11 +20,11 @@ use Rattle.rules.specs.Replies.{wants, values_want}
 use Rattle.rules.specs.Reply.{stepped, newton_turn, restarted, replied}
 use Rattle.rules.specs.laws.ReplyLaws.{replied_ready}
 use Rattle.rules.specs.laws.MainLoopLaws.{rest}
-use Rattle.bdf.specs.declared.core.Core.{Core}
-use Rattle.bdf.specs.declared.core.Outcome.{Outcome}
-use Rattle.bdf.specs.declared.core.Next.{Next}
+use Rattle.bdf.specs.declared.carried.Core.{Core}
+use Rattle.bdf.specs.declared.carried.Outcome.{Outcome}
+use Rattle.bdf.specs.declared.carried.Next.{Next}
 use Rattle.bdf.specs.Core.{whole, bare, core_of, turn_of, tried_when, tried, spoken, plainly, left_over, resumed, Prepared, Resumable, restart_place}
-use Rattle.bdf.proofs.types.Awaited.{the_type}
+use Rattle.rules.specs.contracts.types.Awaited.{the_type}
 use Rattle.bdf.proofs.AwaitedLaws.{of_one}
 
 -- ---- what is asked of a state does not look at its pivots

@@ -1,5 +1,5 @@
 -- The state without its pivots and what a stage came to, as the definitions have them: with the pivots that stand beside.
-use Rattle.core.specs.Prelude.{◌≡◌, ℕ, Bool, true, false, List, []}
+use Rattle.std.specs.Prelude.{◌≡◌, ℕ, Bool, true, false, List, []}
 use Rattle.std.specs.Prelude.{Float}
 use Rattle.loops.specs.Choice.{if◌then◌else◌}
 use Rattle.rules.specs.declared.types.Progress.{Progress}
@@ -12,9 +12,9 @@ use Rattle.rules.specs.Attempt.{Tried, rejected, says}
 use Rattle.rules.specs.Reply.{stepped}
 use Rattle.rules.specs.laws.MainLoopLaws.{rest}
 use Rattle.rules.specs.declared.stages.Factors.{Factors}
-use Rattle.bdf.specs.declared.core.Core.{Core}
-use Rattle.bdf.specs.declared.core.Outcome.{Outcome}
-use Rattle.bdf.specs.declared.core.Next.{Next}
+use Rattle.bdf.specs.declared.carried.Core.{Core}
+use Rattle.bdf.specs.declared.carried.Outcome.{Outcome}
+use Rattle.bdf.specs.declared.carried.Next.{Next}
 
 abbrev pub whole : Core → List ℕ → Progress
 whole p pivot =

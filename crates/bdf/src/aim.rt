@@ -1,11 +1,11 @@
 // The size of a step: between its bounds, and cut where it would lead past the end.
-ghost use Rattle.core.specs.Prelude.{◌≡◌, ℕ, ◌+◌, ◌*◌, ◌<◌, ◌≤◌, List};
+ghost use Rattle.std.specs.Prelude.{◌≡◌, ℕ, ◌+◌, ◌*◌, ◌<◌, ◌≤◌, List};
 ghost use Rattle.rules.specs.laws.Ready.{Room};
 ghost use Rattle.rules.specs.State.{left, changed as changedOf};
 ghost use Rattle.bdf.specs.Core.{whole};
 ghost use Rattle.rules.specs.Attempt.{rescaled_d, to_hmax, to_hmin, aim_at, cut_at_end, aimed};
 
-use crate::core::Core;
+use crate::carried::Core;
 use crate::places::row;
 use crate::rescale::change_d;
 use crate::tables::alpha;

@@ -1,5 +1,5 @@
 // The main loop: attempts until one says something.
-ghost use Rattle.core.specs.Prelude.{◌≡◌, ℕ, ◌+◌, ◌*◌, ◌<◌, ◌≤◌, List, length};
+ghost use Rattle.std.specs.Prelude.{◌≡◌, ℕ, ◌+◌, ◌*◌, ◌<◌, ◌≤◌, List, length};
 ghost use Rattle.matrix.specs.Size.{max_n};
 ghost use Rattle.rules.specs.laws.Ready.{Room, Sane, Ready};
 ghost use Rattle.rules.specs.State.{left, after};
@@ -7,7 +7,7 @@ ghost use Rattle.bdf.specs.Core.{whole, bare, tried};
 ghost use Rattle.rules.specs.Attempt.{told, halved, newton_start, must_factor, refactored, attempt_at, unless_stuck, fitted, fitted_attempt, attempt as attemptOf};
 
 use crate::aim::{aim, rescale_d, to_hmax, to_hmin};
-use crate::core::{Core, Outcome, again, end, says};
+use crate::carried::{Core, Outcome, again, end, says};
 use crate::factor::factor;
 use crate::moves::{copy, fill, load};
 use crate::places::{DELTA, Y_NEW, Y_PREDICT, row};

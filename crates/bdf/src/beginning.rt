@@ -1,5 +1,5 @@
 // The beginning: past the checks, what `solve` computes before its first derivative, and the first question.
-ghost use Rattle.core.specs.Prelude.{◌≡◌, ◌+◌, ◌*◌, ◌<◌, ◌≤◌, max, true, length};
+ghost use Rattle.std.specs.Prelude.{◌≡◌, ◌+◌, ◌*◌, ◌<◌, ◌≤◌, max, true, length};
 ghost use Rattle.rules.specs.laws.Ready.{Room};
 ghost use Rattle.rules.specs.State.{after, turn};
 ghost use Rattle.rules.specs.declared.types.Awaited.TheVariants.{Ended};

@@ -1,5 +1,5 @@
 // The checks of a beginning, in their order.
-ghost use Rattle.core.specs.Prelude.{◌≡◌, ◌+◌, ◌≤◌, true};
+ghost use Rattle.std.specs.Prelude.{◌≡◌, ◌+◌, ◌≤◌, true};
 ghost use Rattle.matrix.specs.Size.{max_n};
 ghost use Rattle.rules.specs.Checks.{entry as entry_of, reaches as reachesOf, negative as negativeOf, zero_step, limited as limitedOf, tolerances_checked, checked as checkedOf};
 

@@ -1,5 +1,5 @@
 // The matrix I - c * J, and its factoring.
-ghost use Rattle.core.specs.Prelude.{◌≡◌, ◌<◌, ◌≤◌, length};
+ghost use Rattle.std.specs.Prelude.{◌≡◌, ◌<◌, ◌≤◌, length};
 ghost use Rattle.rules.specs.laws.Ready.{Room};
 ghost use Rattle.rules.specs.State.{left};
 ghost use Rattle.bdf.specs.Core.{factors};

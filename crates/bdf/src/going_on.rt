@@ -1,5 +1,5 @@
 // Going on: the checks on what is handed back, in their order, then the run to its next answer.
-ghost use Rattle.core.specs.Prelude.{◌≡◌, ◌+◌, ◌*◌, ◌<◌, ◌≤◌, false, length};
+ghost use Rattle.std.specs.Prelude.{◌≡◌, ◌+◌, ◌*◌, ◌<◌, ◌≤◌, false, length};
 ghost use Rattle.matrix.specs.Size.{max_n};
 ghost use Rattle.rules.specs.laws.Ready.{Handed};
 ghost use Rattle.rules.specs.State.{after};
@@ -7,7 +7,7 @@ ghost use Rattle.rules.specs.Replies.{awaits_newton, is_ended, word_wants, value
 ghost use Rattle.bdf.specs.Core.{whole, bare, turn_of};
 ghost use Rattle.rules.specs.GoOn.{pivot_outside, limits_damaged, steps_damaged, counters_damaged, damaged_above0, damaged as damagedOf, count_checked, go_checked, go_within, go_on_of};
 
-use crate::core::{Core, Outcome, says, turn, without_pivots};
+use crate::carried::{Core, Outcome, says, turn, without_pivots};
 use crate::places::{ROWS, row};
 use crate::run::run;
 use matrix::MAX_N;

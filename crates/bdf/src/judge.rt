@@ -1,5 +1,5 @@
 // The error's norm, and the differences and coefficients of an accepted step.
-ghost use Rattle.core.specs.Prelude.{◌≡◌, ◌+◌, ◌*◌, ◌<◌, ◌≤◌, slice_set};
+ghost use Rattle.std.specs.Prelude.{◌≡◌, ◌+◌, ◌*◌, ◌<◌, ◌≤◌, slice_set};
 ghost use Rattle.rules.specs.laws.Ready.{Room};
 ghost use Rattle.rules.specs.Judge.{coefficient as place, safety_of, weighed, newest as newestOf, add_next, summed, coeff, coeffs, prepared, accepted_ws};
 

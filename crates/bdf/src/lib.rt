@@ -4,8 +4,8 @@
 mod aim;
 mod attempt;
 mod beginning;
+mod carried;
 mod checks;
-mod core;
 mod factor;
 mod going_on;
 mod judge;

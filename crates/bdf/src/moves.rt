@@ -1,5 +1,5 @@
 // Copies and fills, over plain places of a slice.
-ghost use Rattle.core.specs.Prelude.{◌≡◌, ◌+◌, ◌≤◌, length};
+ghost use Rattle.std.specs.Prelude.{◌≡◌, ◌+◌, ◌≤◌, length};
 ghost use Rattle.rules.specs.Moves.{copied, filled, loaded};
 
 // count places from `to` on take those from `from` on.

@@ -1,5 +1,5 @@
 // One turn of the simplified Newton iteration.
-ghost use Rattle.core.specs.Prelude.{◌≡◌, ◌+◌, ◌*◌, ◌<◌, ◌≤◌, length};
+ghost use Rattle.std.specs.Prelude.{◌≡◌, ◌+◌, ◌*◌, ◌<◌, ◌≤◌, length};
 ghost use Rattle.rules.specs.laws.Ready.{Room};
 ghost use Rattle.rules.specs.Newton.{residual as residualOf, solved, correction, advanced_at, advanced, power as powerOf, too_slow, settled as settled_of, converged as convergedOf, gave_up};
 

@@ -1,5 +1,5 @@
 // The weighted root mean square of the right side over the scale: `weighted_rms_scaled(&rhs, &scale)`.
-ghost use Rattle.core.specs.Prelude.{◌≡◌, ◌<◌, ◌≤◌};
+ghost use Rattle.std.specs.Prelude.{◌≡◌, ◌<◌, ◌≤◌};
 ghost use Rattle.rules.specs.laws.Ready.{Room};
 ghost use Rattle.rules.specs.Norm.{square_of, sum_of_squares, rhs_norm};
 

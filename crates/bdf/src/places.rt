@@ -1,6 +1,6 @@
 // The workspace's places: the Rust's vectors one after the other in one lent slice. The Jacobian (n * n) and the
 // factored matrix (n * n) come first, by rows; then 33 rows of n, each area named by its first row.
-ghost use Rattle.core.specs.Prelude.{◌≡◌, ◌+◌, ◌*◌, ◌<◌, ◌≤◌};
+ghost use Rattle.std.specs.Prelude.{◌≡◌, ◌+◌, ◌*◌, ◌<◌, ◌≤◌};
 ghost use Rattle.matrix.specs.Size.{max_n};
 ghost use Rattle.rules.specs.laws.Ready.{Room};
 ghost use Rattle.rules.specs.Places.{row as row_of, get as getOf, put as put_of, jac as jacOf, lu as luOf, put_lu};

@@ -1,5 +1,5 @@
 // The predictor, the scale and psi of an attempt.
-ghost use Rattle.core.specs.Prelude.{◌≡◌, ◌<◌, ◌≤◌};
+ghost use Rattle.std.specs.Prelude.{◌≡◌, ◌<◌, ◌≤◌};
 ghost use Rattle.rules.specs.laws.Ready.{Room};
 ghost use Rattle.rules.specs.Predict.{predicted as predictedOf, predict as predictOf, scale_of, scale_at, scaled, psi_sum, psied};
 

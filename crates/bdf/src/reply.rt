@@ -1,5 +1,5 @@
 // A run from one reply to the next answer, by the place at which it waited.
-ghost use Rattle.core.specs.Prelude.{◌≡◌, ℕ, ◌+◌, ◌*◌, ◌<◌, ◌≤◌, true, List, length};
+ghost use Rattle.std.specs.Prelude.{◌≡◌, ℕ, ◌+◌, ◌*◌, ◌<◌, ◌≤◌, true, List, length};
 ghost use Rattle.matrix.specs.Size.{max_n};
 ghost use Rattle.rules.specs.laws.Ready.{Room, Ready, Awake, Enough, Answered};
 ghost use Rattle.rules.specs.State.{left, after};
@@ -8,7 +8,7 @@ ghost use Rattle.rules.specs.Reply.{ask_derivative, ask_jacobian, first_differen
 
 use crate::aim::rescale_d;
 use crate::attempt::{halve, tell};
-use crate::core::{Core, Next, Outcome, again, end, says};
+use crate::carried::{Core, Next, Outcome, again, end, says};
 use crate::moves::{copy, fill, load};
 use crate::order::{choose, err_m, err_p};
 use crate::places::{F0, F1, Y, Y1, get, put, row};

@@ -1,6 +1,6 @@
 // Rescaling the differences D to another step size: `compute_r`, `matmul` and `change_d` of the Rust. A table of
 // order + 1 rows is an array of 36, its entry (i, j) at i * 6 + j. The table at factor 1.0 is `unit`'s.
-ghost use Rattle.core.specs.Prelude.{◌≡◌, ◌+◌, ◌*◌, ◌<◌, ◌≤◌, length};
+ghost use Rattle.std.specs.Prelude.{◌≡◌, ◌+◌, ◌*◌, ◌<◌, ◌≤◌, length};
 ghost use Rattle.loops.specs.Arithmetic.{one};
 ghost use Rattle.matrix.specs.Size.{max_n};
 ghost use Rattle.rules.specs.Tables.{max_order};

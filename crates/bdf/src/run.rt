@@ -1,5 +1,5 @@
 // A run from a reply to its next answer: what the reply came to, what follows a step, and attempts until one says something.
-ghost use Rattle.core.specs.Prelude.{◌≡◌, ◌≤◌, length};
+ghost use Rattle.std.specs.Prelude.{◌≡◌, ◌≤◌, length};
 ghost use Rattle.matrix.specs.Size.{max_n};
 ghost use Rattle.rules.specs.laws.Ready.{Ready, Awake, Answered};
 ghost use Rattle.rules.specs.State.{after};
@@ -7,7 +7,7 @@ ghost use Rattle.rules.specs.Reply.{replied as repliedOf};
 ghost use Rattle.bdf.specs.Core.{whole, bare, turn_of, left_over, Prepared};
 
 use crate::attempt::attempt;
-use crate::core::{Core, Outcome};
+use crate::carried::{Core, Outcome};
 use crate::reply::{replied, stepped};
 use rules::types::{Awaited, Reply};
 

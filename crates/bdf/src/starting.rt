@@ -1,5 +1,5 @@
 // `hinit`, cut where it asks its one derivative, and what `solve` makes of its guess.
-ghost use Rattle.core.specs.Prelude.{◌≡◌, ◌+◌, ◌*◌, ◌<◌, ◌≤◌};
+ghost use Rattle.std.specs.Prelude.{◌≡◌, ◌+◌, ◌*◌, ◌<◌, ◌≤◌};
 ghost use Rattle.rules.specs.laws.Ready.{Room};
 ghost use Rattle.rules.specs.Starting.{sk as skOf, squares as squaresOf, raw_guess, first_guess, guess as guessOf, euler as eulerOf, second as second_of, h1 as h1Of, final_guess, hinit as hinitOf, within_span};
 

@@ -1,5 +1,5 @@
 // What follows a Newton derivative's reply.
-ghost use Rattle.core.specs.Prelude.{◌≡◌, ℕ, ◌+◌, ◌*◌, ◌<◌, ◌≤◌, List, length, ◌==◌};
+ghost use Rattle.std.specs.Prelude.{◌≡◌, ℕ, ◌+◌, ◌*◌, ◌<◌, ◌≤◌, List, length, ◌==◌};
 ghost use Rattle.matrix.specs.Size.{max_n};
 ghost use Rattle.rules.specs.laws.Ready.{Room, Sane, Ready, Awake, Judging};
 ghost use Rattle.rules.specs.State.{left, after};
@@ -8,7 +8,7 @@ ghost use Rattle.rules.specs.Step.{error_fails, error_factor, error_rejected, st
 
 use crate::aim::rescale_d;
 use crate::attempt::tell;
-use crate::core::{Core, Outcome, again, says};
+use crate::carried::{Core, Outcome, again, says};
 use crate::judge::{accept, safety, weigh};
 use crate::moves::load;
 use crate::newton::{advance, converged, correct, gave_up};

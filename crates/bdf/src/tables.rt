@@ -1,6 +1,6 @@
 // The coefficients of the formulas of order 0 to 5 (index k), as the loops at the head of `solve` compute them: constants here,
 // with the same bits.
-ghost use Rattle.core.specs.Prelude.{◌≡◌, ◌≤◌};
+ghost use Rattle.std.specs.Prelude.{◌≡◌, ◌≤◌};
 ghost use Rattle.loops.specs.Cell.{at};
 ghost use Rattle.rules.specs.Tables.{max_order, gammas, alphas, error_consts};
 

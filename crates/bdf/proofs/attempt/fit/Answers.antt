@@ -1,0 +1,9 @@
+-- `attempt::fit`: to the greatest step, then to the least. Assumes nothing.
+use borrow.Author.Rules.{rules}
+use Rattle.rules.specs.Attempt.{fitted}
+use Rattle.bdf.proofs.attempt.fit.Goals as goal
+
+pub returns : goal.returns
+unfolding fitted
+returns c =
+    λ pivot. rw (← c.to_hmax-a.ensures) c.to_hmin.ensures

@@ -1,0 +1,9 @@
+-- `attempt::newton_start`: its callees one after the other. Assumes nothing.
+use borrow.Author.Rules.{rules}
+use Rattle.rules.specs.Attempt.{newton_start}
+use Rattle.bdf.proofs.attempt.newton_start.Goals as goal
+
+pub returns : goal.returns
+unfolding newton_start
+returns c =
+    λ pivot. rw (c.says.ensures pivot, c.tell.ensures, c.fill.ensures, c.row-3.ensures, c.copy.ensures, c.row-2.ensures, c.row.ensures)

@@ -1,0 +1,23 @@
+-- `beginning::least`: one entry a turn, from infinity on. Assumes nothing.
+use Rattle.std.specs.Prelude.{◌-◌, false}
+use native.Mathlib.Omega.{arith}
+use borrow.Author.Rules.{rules}
+use lib.Ieee.{inf}
+use Rattle.loops.specs.laws.Turned.{Turned, turn_none, turn_more, turn_all}
+use Rattle.rules.specs.Begin.{least_turn, least}
+use Rattle.rules.specs.laws.CheckLaws.{reaches_each}
+use Rattle.bdf.proofs.beginning.least.Goals as goal
+
+pub loop-i-init : goal.loop-i-init
+loop-i-init c = rw c.infinity-m.ensures (turn_none (omega arith))
+
+pub entry-requires : goal.entry-requires
+entry-requires c = reaches_each c.args.r c.args.rs.now c.requires c.loop-i-test.true
+
+pub loop-i-preserved : goal.loop-i-preserved
+unfolding least_turn
+loop-i-preserved c = turn_more c.loop-i.invariant (omega arith) (rw c.entry.ensures at c.min-m.ensures)
+
+pub returns : goal.returns
+unfolding least
+returns c = turn_all c.loop-i.invariant c.loop-i-test.false

@@ -1,0 +1,8 @@
+-- `carried::says`: its fields. Assumes nothing.
+use borrow.Author.Rules.{rules}
+use mathlib.Core.Path.{refl}
+use Rattle.bdf.proofs.carried.says.Goals as goal
+
+pub returns : goal.returns
+returns c =
+    λ pivot. refl

@@ -1,0 +1,12 @@
+use Rattle.std.specs.Prelude.{◌≡◌, ◌-◌, ◌≤◌}
+use mathlib.Core.Path.{refl, sym, ◌∙◌}
+use native.Mathlib.Omega.{arith}
+use Rattle.rules.specs.Checks.{negative}
+use Rattle.rules.specs.laws.CheckLaws.{reaches_each, relative_found, absolute_found, none_negative_here, none_left}
+use Rattle.bdf.proofs.checks.negative.Given as goal
+
+abbrev pub invariant-loop-i : goal.invariant-loop-i
+invariant-loop-i l = (l.i ≤ l.n) × (negative l.r l.rs l.a l.als (l.n - l.i) l.i ≡ negative l.r l.rs l.a l.als l.n 0)
+
+abbrev pub decreases-loop-i : goal.decreases-loop-i
+decreases-loop-i l = l.n - l.i

@@ -1,0 +1,6 @@
+-- `checks::reaches` goes by the same cases as its definition. Assumes nothing.
+use borrow.Author.Rules.{rules}
+use Rattle.bdf.proofs.checks.reaches.Goals as goal
+
+pub returns-in-Vector : goal.returns-in-Vector
+returns-in-Vector c = rw c.in-Vector.is

@@ -1,0 +1,40 @@
+-- `factor::factor`: the matrix, then lu_decomp on the part where it stands and on the first n pivots; whatever it answers, what
+-- it left there is kept. Assumes nothing.
+use borrow.Author.Rules.{rules}
+use Rattle.std.specs.Prelude.{◌≡◌, ℕ, ◌+◌, ◌-◌, ◌*◌, Bool, List, ◌++◌, take, drop}
+use mathlib.Core.Path.{ap}
+use native.Mathlib.Omega.{arith}
+use lib.ListN.{length-take}
+use lib.Ieee.{Float}
+use Rattle.loops.specs.Part.{part, over}
+use Rattle.loops.specs.Refusal.{Outcome}
+use Rattle.matrix.specs.Lu.{lu_decomp_of, LuOutcome, factoring_of}
+use Rattle.rules.specs.State.{left}
+use Rattle.rules.specs.Factor.{matrix, factored, went}
+use Rattle.bdf.proofs.factor.factor.Goals as goal
+
+-- w with the matrix, a and ip what lu_decomp left in its part of w and in the first n pivots
+factors : (n : ℕ) (c : Float) (pivot ip : List ℕ) (ws w a : List Float) (said : Outcome Unit) (ok : Bool) → w ≡ matrix n c ws →
+    ◌≡◌ {A = LuOutcome} (said, a, ip) (lu_decomp_of (part (n * n) (n * n + n * n - n * n) w) (take n pivot)) → went said ≡ ok →
+    left (record { ok = ok; pivot = ip ++ drop n pivot }) (over (n * n) (n * n + n * n - n * n) (λ _. a) w) ≡ factored n c pivot ws
+unfolding factored
+factors n c pivot ip ws w a said ok first second third =
+    let square : n * n + n * n - n * n ≡ n * n = omega arith in
+    let answered : ◌≡◌ {A = LuOutcome} (said, a, ip) (lu_decomp_of (part (n * n) (n * n) w) (take n pivot)) = rw square at second in
+    rw (square, ← first, ← answered, third)
+
+pub slice_bounds-lu_decomp-end-3 : goal.slice_bounds-lu_decomp-end-3
+slice_bounds-lu_decomp-end-3 c =
+    simp length-take (omega arith)
+
+pub returns-in-Factored : goal.returns-in-Factored
+returns-in-Factored c =
+    factors _ _ _ _ _ _ _ _ _ c.matrix_rows.ensures c.lu_decomp-answer.ensures (ap (λ s. went (factoring_of s)) c.in-Factored.is)
+
+pub returns-in-WrongSize : goal.returns-in-WrongSize
+returns-in-WrongSize c =
+    factors _ _ _ _ _ _ _ _ _ c.matrix_rows.ensures c.lu_decomp-answer.ensures (ap (λ s. went (factoring_of s)) c.in-WrongSize.is)
+
+pub returns-in-Singular : goal.returns-in-Singular
+returns-in-Singular c =
+    factors _ _ _ _ _ _ _ _ _ c.matrix_rows.ensures c.lu_decomp-answer.ensures (ap (λ s. went (factoring_of s)) c.in-Singular.is)

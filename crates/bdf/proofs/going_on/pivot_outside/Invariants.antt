@@ -1,0 +1,15 @@
+use borrow.Author.Rules.{rules}
+use Rattle.std.specs.Prelude.{◌≡◌, ◌-◌, false}
+use mathlib.Core.Path.{sym}
+use native.Mathlib.Omega.{arith}
+use borrow.Author.Tests.{lt-leb}
+use Rattle.loops.specs.laws.Turned.{Turned, turn_none, turn_more, turn_all}
+use Rattle.rules.specs.GoOn.{pivot_turn, pivot_outside}
+use Rattle.rules.specs.laws.DamageLaws.{pivot_found}
+use Rattle.bdf.proofs.going_on.pivot_outside.Given as goal
+
+abbrev pub invariant-loop-i : goal.invariant-loop-i
+invariant-loop-i l = Turned 0 (l.n - 1) (pivot_turn l.n l.pivot) false l.i false
+
+abbrev pub decreases-loop-i : goal.decreases-loop-i
+decreases-loop-i l = l.n - l.i

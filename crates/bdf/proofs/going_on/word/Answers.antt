@@ -1,0 +1,6 @@
+-- `going_on::word` goes by the same cases as its definition. Assumes nothing.
+use borrow.Author.Rules.{rules}
+use Rattle.bdf.proofs.going_on.word.Goals as goal
+
+pub returns-in-Modified : goal.returns-in-Modified
+returns-in-Modified c = rw c.in-Modified.is

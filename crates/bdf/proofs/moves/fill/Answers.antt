@@ -1,0 +1,19 @@
+-- `moves::fill`: one place a turn. Assumes nothing.
+use Rattle.std.specs.Prelude.{◌≡◌, ◌-◌, length}
+use mathlib.Core.Path.{refl}
+use native.Mathlib.Omega.{arith}
+use lib.ListN.{length-set}
+use Rattle.loops.specs.laws.Turned.{Turned, turn_none, turn_more, turn_all}
+use Rattle.rules.specs.Moves.{fill_turn, filled}
+use Rattle.bdf.proofs.moves.fill.Goals as goal
+
+pub loop-i-init : goal.loop-i-init
+loop-i-init c = (refl, turn_none (omega arith))
+
+pub loop-i-preserved : goal.loop-i-preserved
+unfolding fill_turn
+loop-i-preserved c = (simp length-set c.loop-i.invariant.0, turn_more c.loop-i.invariant.1 (omega arith) refl)
+
+pub returns : goal.returns
+unfolding filled
+returns c = turn_all c.loop-i.invariant.1 c.loop-i-test.false

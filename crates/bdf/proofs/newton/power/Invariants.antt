@@ -1,0 +1,13 @@
+use Rattle.std.specs.Prelude.{◌-◌}
+use mathlib.Core.Path.{refl}
+use native.Mathlib.Omega.{arith}
+use Rattle.loops.specs.laws.Turned.{Turned, turn_none, turn_more, turn_all}
+use Rattle.loops.specs.Arithmetic.{one}
+use Rattle.rules.specs.Newton.{power_turn, power}
+use Rattle.bdf.proofs.newton.power.Given as goal
+
+abbrev pub invariant-loop-i : goal.invariant-loop-i
+invariant-loop-i l = Turned 0 l.k (power_turn l.x) one l.i l.p
+
+abbrev pub decreases-loop-i : goal.decreases-loop-i
+decreases-loop-i l = l.k - l.i

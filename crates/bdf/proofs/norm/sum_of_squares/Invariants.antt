@@ -1,0 +1,12 @@
+use Rattle.std.specs.Prelude.{◌-◌}
+use native.Mathlib.Omega.{arith}
+use borrow.Author.Rules.{rules}
+use Rattle.loops.specs.laws.Turned.{Turned, turn_none, turn_more, turn_all}
+use Rattle.rules.specs.Norm.{square_turn, sum_of_squares}
+use Rattle.bdf.proofs.norm.sum_of_squares.Given as goal
+
+abbrev pub invariant-loop-i : goal.invariant-loop-i
+invariant-loop-i l = Turned 0 l.n (square_turn l.n l.ws) l.initial.sum l.i l.sum
+
+abbrev pub decreases-loop-i : goal.decreases-loop-i
+decreases-loop-i l = l.n - l.i

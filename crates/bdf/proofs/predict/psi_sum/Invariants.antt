@@ -1,0 +1,11 @@
+use Rattle.std.specs.Prelude.{◌+◌, ◌-◌}
+use native.Mathlib.Omega.{arith}
+use Rattle.loops.specs.laws.Turned.{Turned, turn_none, turn_more, turn_all}
+use Rattle.rules.specs.Predict.{psi_sum_turn, psi_sum}
+use Rattle.bdf.proofs.predict.psi_sum.Given as goal
+
+abbrev pub invariant-loop-j : goal.invariant-loop-j
+invariant-loop-j l = Turned 1 (l.order + 1) (psi_sum_turn l.n l.ws l.i) l.initial.s l.j l.s
+
+abbrev pub decreases-loop-j : goal.decreases-loop-j
+decreases-loop-j l = l.order + 1 - l.j

@@ -1,0 +1,6 @@
+-- `predict::scale_at`: three reads and `scale_of`. Assumes nothing.
+use borrow.Author.Rules.{rules}
+use Rattle.bdf.proofs.predict.scale_at.Goals as goal
+
+pub returns : goal.returns
+returns c = rw (c.get.ensures, c.get-2.ensures, c.get-3.ensures) at c.scale_of.ensures

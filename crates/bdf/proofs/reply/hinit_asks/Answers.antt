@@ -1,0 +1,9 @@
+-- `reply::hinit_asks`: its callees one after the other. Assumes nothing.
+use borrow.Author.Rules.{rules}
+use Rattle.rules.specs.Reply.{hinit_asks}
+use Rattle.bdf.proofs.reply.hinit_asks.Goals as goal
+
+pub returns : goal.returns
+unfolding hinit_asks
+returns c =
+    λ pivot. rw (c.says.ensures pivot, c.tell.ensures, c.euler.ensures, c.guess-h.ensures)

@@ -1,0 +1,9 @@
+-- `reply::jacobian`: the values are stored, and counted. Assumes nothing.
+use borrow.Author.Rules.{rules}
+use Rattle.rules.specs.Reply.{jacobian_stored}
+use Rattle.bdf.proofs.reply.jacobian.Goals as goal
+
+pub returns : goal.returns
+unfolding jacobian_stored
+returns c =
+    λ pivot. rw c.load.ensures

@@ -1,0 +1,8 @@
+-- `reply::plain`: its fields. Assumes nothing.
+use borrow.Author.Rules.{rules}
+use mathlib.Core.Path.{refl}
+use Rattle.bdf.proofs.reply.plain.Goals as goal
+
+pub returns : goal.returns
+returns c =
+    refl

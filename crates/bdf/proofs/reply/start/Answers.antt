@@ -1,0 +1,9 @@
+-- `reply::start`: its callees one after the other. Assumes nothing.
+use borrow.Author.Rules.{rules}
+use Rattle.rules.specs.Reply.{started}
+use Rattle.bdf.proofs.reply.start.Goals as goal
+
+pub returns : goal.returns
+unfolding started
+returns c =
+    λ pivot. rw (c.says.ensures pivot, c.tell.ensures, c.differences.ensures, c.min-h.ensures, c.max.ensures)

@@ -1,0 +1,14 @@
+use mathlib.Core.Path.{refl}
+use Rattle.std.specs.Prelude.{◌-◌, ◌^◌}
+use native.Mathlib.Omega.{arith}
+use Rattle.loops.specs.laws.Turned.{Turned, turn_none, turn_more, turn_all}
+use lib.Dec.{le→leb}
+use lib.Ieee.{in_float}
+use Rattle.rules.specs.Rescale.{m_row, m_turn}
+use Rattle.bdf.proofs.rescale.m_row.Given as goal
+
+abbrev pub invariant-loop-j : goal.invariant-loop-j
+invariant-loop-j l = Turned 1 l.size (m_turn l.factor l.i) l.initial.m l.j l.m
+
+abbrev pub decreases-loop-j : goal.decreases-loop-j
+decreases-loop-j l = l.size - l.j

@@ -1,0 +1,13 @@
+use Rattle.std.specs.Prelude.{◌≡◌, ◌+◌, ◌-◌, ◌*◌, ◌≤◌, length}
+use mathlib.Core.Path.{refl}
+use native.Mathlib.Omega.{arith}
+use Rattle.loops.specs.laws.Turned.{Turned, turn_none, turn_more, turn_all}
+use Rattle.loops.specs.laws.RowLaws.{row_within}
+use Rattle.rules.specs.Rescale.{new_row, new_row_turn}
+use Rattle.bdf.proofs.rescale.new_row.Given as goal
+
+abbrev pub invariant-loop-k : goal.invariant-loop-k
+invariant-loop-k l = (length l.scratch ≡ length l.initial.scratch) × Turned 0 l.size (new_row_turn l.n l.ru l.d l.i) l.initial.scratch l.k l.scratch
+
+abbrev pub decreases-loop-k : goal.decreases-loop-k
+decreases-loop-k l = l.size - l.k

@@ -1,0 +1,14 @@
+use Rattle.std.specs.Prelude.{◌≡◌, ◌+◌, ◌-◌, ◌*◌, ◌≤◌, length}
+use mathlib.Core.Path.{refl}
+use native.Mathlib.Omega.{arith}
+use Rattle.loops.specs.laws.Turned.{Turned, turn_none, turn_more, turn_all}
+use Rattle.matrix.specs.Size.{max_n}
+use Rattle.loops.specs.laws.RowLaws.{row_within}
+use Rattle.rules.specs.Rescale.{new_rows, new_row}
+use Rattle.bdf.proofs.rescale.new_rows.Given as goal
+
+abbrev pub invariant-loop-i : goal.invariant-loop-i
+invariant-loop-i l = (length l.scratch ≡ 6 * max_n) × Turned 0 l.size (new_row l.n l.ru l.d l.size) l.initial.scratch l.i l.scratch
+
+abbrev pub decreases-loop-i : goal.decreases-loop-i
+decreases-loop-i l = l.size - l.i

@@ -1,0 +1,21 @@
+-- `rescale::product_row`: one row of b a turn. Assumes nothing.
+use Rattle.std.specs.Prelude.{◌≡◌, ◌-◌, length}
+use mathlib.Core.Path.{refl}
+use native.Mathlib.Omega.{arith}
+use Rattle.loops.specs.laws.Turned.{Turned, turn_none, turn_more, turn_all}
+use Rattle.rules.specs.Rescale.{product_row, product_turn}
+use Rattle.bdf.proofs.rescale.product_row.Goals as goal
+
+pub loop-k-init : goal.loop-k-init
+loop-k-init c = (refl, turn_none (omega arith))
+
+pub loop-k-preserved : goal.loop-k-preserved
+unfolding product_turn
+loop-k-preserved c =
+    let loop = c.loop-k in
+    let add-scaled = c.add_scaled in
+    (omega arith, turn_more loop.invariant.1 (omega arith) add-scaled.ensures)
+
+pub returns : goal.returns
+unfolding product_row
+returns c = turn_all c.loop-k.invariant.1 c.loop-k-test.false

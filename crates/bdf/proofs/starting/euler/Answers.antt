@@ -1,0 +1,28 @@
+-- `starting::euler`: one component a turn. Assumes nothing.
+use Rattle.std.specs.Prelude.{◌≡◌, ◌-◌, length}
+use mathlib.Core.Path.{refl}
+use native.Mathlib.Omega.{arith}
+use Rattle.loops.specs.laws.Turned.{Turned, turn_none, turn_more, turn_all}
+use Rattle.rules.specs.laws.ReadyLaws.{room_kept}
+use Rattle.rules.specs.Starting.{euler_turn, euler}
+use Rattle.bdf.proofs.starting.euler.Goals as goal
+
+pub loop-i-init : goal.loop-i-init
+loop-i-init c = (refl, turn_none (omega arith))
+
+pub get-requires : goal.get-requires
+get-requires c = (room_kept c.requires c.loop-i.invariant.0, omega arith, omega arith)
+
+pub get-requires-in-loop-i : goal.get-requires-in-loop-i
+get-requires-in-loop-i c = (room_kept c.requires c.loop-i.invariant.0, omega arith, omega arith)
+
+pub put-requires : goal.put-requires
+put-requires c = (room_kept c.requires c.loop-i.invariant.0, omega arith, omega arith)
+
+pub loop-i-preserved : goal.loop-i-preserved
+unfolding euler_turn
+loop-i-preserved c = (omega arith, turn_more c.loop-i.invariant.1 (omega arith) (rw (c.get.ensures, c.get-in-loop-i.ensures) at c.put.ensures))
+
+pub returns : goal.returns
+unfolding euler
+returns c = turn_all c.loop-i.invariant.1 c.loop-i-test.false

@@ -1,0 +1,11 @@
+use Rattle.std.specs.Prelude.{◌-◌}
+use native.Mathlib.Omega.{arith}
+use Rattle.loops.specs.laws.Turned.{Turned, turn_none, turn_more, turn_all}
+use Rattle.rules.specs.Starting.{second_turn, second}
+use Rattle.bdf.proofs.starting.second.Given as goal
+
+abbrev pub invariant-loop-i : goal.invariant-loop-i
+invariant-loop-i l = Turned 0 l.n (second_turn l.n l.ws) l.initial.sum l.i l.sum
+
+abbrev pub decreases-loop-i : goal.decreases-loop-i
+decreases-loop-i l = l.n - l.i

@@ -1,0 +1,23 @@
+-- `starting::squares`: one component a turn. Assumes nothing.
+use Rattle.std.specs.Prelude.{◌-◌}
+use native.Mathlib.Omega.{arith}
+use Rattle.loops.specs.laws.Turned.{Turned, turn_none, turn_more, turn_all}
+use Rattle.rules.specs.Starting.{squares_turn, squares}
+use Rattle.bdf.proofs.starting.squares.Goals as goal
+
+pub loop-i-init : goal.loop-i-init
+loop-i-init c = turn_none (omega arith)
+
+pub get-requires : goal.get-requires
+get-requires c = (c.requires.0, omega arith, omega arith)
+
+pub sk-requires : goal.sk-requires
+sk-requires c = (c.requires.0, omega arith)
+
+pub loop-i-preserved : goal.loop-i-preserved
+unfolding squares_turn
+loop-i-preserved c = turn_more c.loop-i.invariant (omega arith) (rw (c.get.ensures, c.sk.ensures))
+
+pub returns : goal.returns
+unfolding squares
+returns c = turn_all c.loop-i.invariant c.loop-i-test.false

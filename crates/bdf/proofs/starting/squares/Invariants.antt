@@ -1,0 +1,11 @@
+use Rattle.std.specs.Prelude.{◌-◌}
+use native.Mathlib.Omega.{arith}
+use Rattle.loops.specs.laws.Turned.{Turned, turn_none, turn_more, turn_all}
+use Rattle.rules.specs.Starting.{squares_turn, squares}
+use Rattle.bdf.proofs.starting.squares.Given as goal
+
+abbrev pub invariant-loop-i : goal.invariant-loop-i
+invariant-loop-i l = Turned 0 l.n (squares_turn l.n l.v l.ws) l.initial.sum l.i l.sum
+
+abbrev pub decreases-loop-i : goal.decreases-loop-i
+decreases-loop-i l = l.n - l.i

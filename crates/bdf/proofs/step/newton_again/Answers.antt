@@ -1,0 +1,9 @@
+-- `step::newton_again`: the state is told, and the next derivative asked. Assumes nothing.
+use borrow.Author.Rules.{rules}
+use Rattle.rules.specs.Step.{newton_again}
+use Rattle.bdf.proofs.step.newton_again.Goals as goal
+
+pub returns : goal.returns
+unfolding newton_again
+returns c =
+    λ pivot. rw (c.says.ensures pivot, c.tell.ensures)

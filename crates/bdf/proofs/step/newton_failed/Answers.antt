@@ -1,0 +1,9 @@
+-- `step::newton_failed`: the prediction is told, and the Jacobian asked. Assumes nothing.
+use borrow.Author.Rules.{rules}
+use Rattle.rules.specs.Step.{newton_failed}
+use Rattle.bdf.proofs.step.newton_failed.Goals as goal
+
+pub returns : goal.returns
+unfolding newton_failed
+returns c =
+    λ pivot. rw (c.says.ensures pivot, c.tell.ensures)
