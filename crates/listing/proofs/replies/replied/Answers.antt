@@ -18,8 +18,7 @@ use Rattle.rules.specs.GoOn.{go_on_of}
 use Rattle.listing.specs.Types.{Turn}
 use Rattle.listing.specs.Replies.{reply_to, values_for, replied}
 use Rattle.listing.specs.laws.ReplyLaws.{too_many_refused}
-use Rattle.listing.proofs.replies.replied.Statement.{statement}
-use Rattle.listing.proofs.replies.replied.Tie as tie
+use Rattle.listing.proofs.replies.replied.Goals as goal
 
 -- whatever was written for too many components
 reply_taken :
@@ -35,26 +34,12 @@ reply_taken a g values e = by_test _ refl
         let above : max_n < size g = leb-false (size g) max_n many in
         too_many_refused _ _ values _ _ above ∙ sym (too_many_refused _ _ _ _ _ above)
 
-values-for-requires : tie.Need-values-for-requires
-values-for-requires c κs = (c.before.before.before.before.before.before.before.requires.0, (c.before.before.before.before.before.before.before.requires.1.1, c.before.before.before.before.before.before.before.requires.1.0))
+pub values_for-count-requires : goal.values_for-count-requires
+values_for-count-requires c = (c.requires.0, (c.requires.1.1, c.requires.1.0))
 
-slice-aggregate-go-on : tie.Need-slice-aggregate-go-on
-slice-aggregate-go-on c = front _ _ (omega (arith, c.before.before.before.before.values-for.ensures.0, c.before.before.before.before.values-for.auto))
+pub slice_bounds-go_on-end-2 : goal.slice_bounds-go_on-end-2
+slice_bounds-go_on-end-2 c = front _ _ (omega (arith, c.values_for-count.ensures.0, c.values_for-count.auto))
 
-returns : tie.Need-returns
+pub returns : goal.returns
 returns c =
-    c.before.before.before.before.go_on.ensures ∙ rw c.before.before.before.before.before.before.before.before.reply-to.ensures (reply_taken _ (after c.before.before.before.before.before.before.before.before.before.before.before.before.before.before.before.before.before.before.before.args.turn c.before.before.before.before.before.before.before.before.before.before.before.before.before.before.before.before.before.before.before.args.ws.now c.before.before.before.before.before.before.before.before.before.before.before.before.before.before.before.before.before.before.before.args.q.now) _ c.before.before.before.before.before.before.before.before.before.before.before.values-for.ensures.1)
-
-pub replied_spec : {M : Type 1} → statement M
-replied_spec =
-    tie.close
-    (tie.spec
-    values-for-requires
-    (λ c κs. search rules)
-    (λ c. search rules)
-    slice-aggregate-go-on
-    (λ c κs. search rules)
-    (λ c. search rules)
-    (λ c. search rules)
-    (λ c. search rules)
-    returns)
+    c.go_on.ensures ∙ rw c.reply_to.ensures (reply_taken _ (after c.args.turn c.args.ws.now c.args.q.now) _ c.values_for-count.ensures.1)

@@ -10,8 +10,7 @@ use Rattle.lines.specs.Lines.{refusal_line}
 use Rattle.listing.specs.Types.{Run}
 use Rattle.listing.specs.Pages.{refused_at}
 use Rattle.listing.specs.declared.pages.Page.{Page}
-use Rattle.listing.proofs.pages.refused.Statement.{statement}
-use Rattle.listing.proofs.pages.refused.Tie as tie
+use Rattle.listing.proofs.pages.refused.Goals as goal
 
 -- by the place that the line came to
 at_place :
@@ -20,23 +19,8 @@ at_place :
     refused_at number run (p, page) ≡ refused_at number run (puts (refusal_line number) (At 0, out))
 at_place number run out {page = page} put e = ap (refused_at number run) (ap (λ (p : Place). (p, page)) (sym e) ∙ put)
 
-returns : tie.Need-returns
-returns c = rw (c.page-of.ensures, c.before.over.ensures) (at_place _ _ _ c.before.before.before.before.before.before.before.refusal-line.ensures c.before.before.before.length.given.1)
+pub returns-in-At : goal.returns-in-At
+returns-in-At c = rw (c.page_of.ensures, c.over.ensures) (at_place _ _ _ c.refusal_line.ensures c.in-At.is)
 
-returns-2 : tie.Need-returns-2
-returns-2 c = rw c.page-of2.ensures (at_place _ _ _ c.before.before.before.before.before.refusal-line.ensures c.before.enum_told.given.1)
-
-pub refused_spec : {M : Type 1} → statement M
-refused_spec =
-    tie.close
-    (tie.spec
-    (λ c κs. search rules)
-    (λ c. search rules)
-    (λ c κs. search rules)
-    (λ c κs. search rules)
-    (λ c. search rules)
-    (λ c κs. search rules)
-    (λ c. search rules)
-    returns
-    (λ c. search rules)
-    returns-2)
+pub returns-in-Full : goal.returns-in-Full
+returns-in-Full c = rw c.page_of-in-Full.ensures (at_place _ _ _ c.refusal_line.ensures c.in-Full.is)

@@ -17,8 +17,7 @@ use Rattle.listing.specs.Types.{Job}
 use Rattle.listing.specs.Printed.{reading}
 use Rattle.listing.specs.Pages.{refused_of, begun_with, opened_from, opened}
 use Rattle.listing.specs.declared.opening.Listing.{Listing}
-use Rattle.listing.proofs.opening.open.Statement.{statement}
-use Rattle.listing.proofs.opening.open.Tie as tie
+use Rattle.listing.proofs.opening.open.Goals as goal
 
 module _ (s : List ℕ) {r : Reading} {y0 b : List Float} (read : ◌≡◌ {A = ReadOutcome} (reading_of r, y0, b) (reading s)) where
   few : (j : Job) → r ≡ Read j → j.n ≤ max_n
@@ -39,26 +38,14 @@ module _ (s : List ℕ) {r : Reading} {y0 b : List Float} (read : ◌≡◌ {A =
       ◌≡◌ {A = After Listing × List Float} (after l ws q, a) (opened s a ws q)
   refusal_opened a ws q e f = rw f (said a ws q e)
 
-begun-requires : tie.Need-begun-requires
+pub begun-requires : goal.begun-requires
 unfolding of_bits
-begun-requires c κs = few _ c.before.before.before.before.before.before.before.before.read.ensures _ c.before.before.before.before.before.before.j.given.1
+begun-requires c = few _ c.read.ensures _ c.in-Read.is
 
-returns : tie.Need-returns
+pub returns-in-Read : goal.returns-in-Read
 unfolding of_bits
-returns c = job_opened _ c.before.before.before.before.before.before.before.before.before.read.ensures _ _ _ c.before.before.before.before.before.before.before.j.given.1 c.begun.ensures
+returns-in-Read c = job_opened _ c.read.ensures _ _ _ c.in-Read.is c.begun.ensures
 
-returns-2 : tie.Need-returns-2
+pub returns-in-Refused : goal.returns-in-Refused
 unfolding of_bits
-returns-2 c = refusal_opened _ c.before.before.before.before.read.ensures _ _ _ c.before.before.number.given.1 c.refused.ensures
-
-pub open_spec : {M : Type 1} → statement M
-open_spec =
-    tie.close
-    (tie.spec
-    (λ c κs. search rules)
-    (λ c. search rules)
-    begun-requires
-    (λ c. search rules)
-    (λ c κs. search rules)
-    returns
-    returns-2)
+returns-in-Refused c = refusal_opened _ c.read.ensures _ _ _ c.in-Refused.is c.refused.ensures
