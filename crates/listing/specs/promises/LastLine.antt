@@ -5,7 +5,7 @@ use Rattle.std.proofs.Common.{sym, ◌∙◌, true≢false, append-nil, inl, inr
 use Rattle.loops.specs.Refusal.{gives}
 use Rattle.lines.specs.Types.{Status, Success}
 use Rattle.lines.specs.Lines.{line, hexes, end_line}
-use Rattle.rules.specs.Places.{vector, y_row}
+use Rattle.rules.specs.Places.{vector, y as y_row}
 use Rattle.rules.specs.Answers.{is_end, is_refused}
 use Rattle.rules.specs.State.{After}
 use Rattle.rules.specs.Begin.{ask_first, begin_run}

@@ -7,7 +7,6 @@ use native.Mathlib.Omega.{arith}
 use lib.ListN.{length, drop}
 use lib.Seq.{drop-length}
 use lib.Ieee.{Float}
-use borrow.Author.Rules.{rules}
 use Rattle.loops.specs.laws.ChoiceLaws.{when_true, when_false}
 use Rattle.text.specs.laws.Fronts.{front}
 use Rattle.rules.specs.Answers.{is_question_or_notice}

@@ -4,7 +4,6 @@ use mathlib.Core.List.{List}
 use Prim.Native.Nat.{ℕ, ◌*◌, ◌≤◌}
 use lib.ListN.{take, replicate}
 use lib.Ieee.{Float, of_bits}
-use borrow.Author.Rules.{rules}
 use Rattle.loops.specs.Arithmetic.{+0}
 use Rattle.matrix.specs.Size.{max_n}
 use Rattle.rules.specs.State.{After, after}

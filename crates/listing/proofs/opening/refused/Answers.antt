@@ -1,6 +1,5 @@
 -- `opening::refused` meets its contract: a beginning of no components has ended, whatever else it is given. Assumes nothing.
 use mathlib.Core.Path.{ap}
-use borrow.Author.Rules.{rules}
 use Rattle.loops.specs.Choice.{if◌then◌else◌}
 use Rattle.rules.specs.State.{After}
 use Rattle.rules.specs.Begin.{begin_of}

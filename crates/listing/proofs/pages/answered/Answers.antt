@@ -1,5 +1,4 @@
 -- `pages::answered` meets its contract: by the place that the line came to. Assumes nothing.
-use borrow.Author.Rules.{rules}
 use Rattle.rules.specs.State.{after}
 use Rattle.listing.specs.laws.FilledLaws.{answer_put, answer_not_put}
 use Rattle.listing.proofs.pages.answered.Goals as goal

@@ -2,13 +2,10 @@
 -- of them from the start. The measure is how many are left. Assumes nothing.
 use mathlib.Core.Path.{◌≡◌, refl, sym, subst, ◌∙◌}
 use mathlib.Core.List.{List}
-use Prim.Native.Nat.{ℕ, ◌*◌, ◌-◌, ◌<◌}
+use Prim.Native.Nat.{ℕ, ◌-◌, ◌<◌}
 use mathlib.Core.Bool.{true}
 use native.Mathlib.Omega.{arith}
-use lib.ListN.{length}
 use lib.Ieee.{Float}
-use borrow.Author.Rules.{rules}
-use Rattle.matrix.specs.Size.{max_n}
 use Rattle.rules.specs.State.{after}
 use Rattle.listing.specs.Pages.{UnderWay, goes_on, answered, filled}
 use Rattle.listing.specs.laws.FilledLaws.{Within, answered_within, filled_none, filled_stops, filled_more}

@@ -1,15 +1,10 @@
-use mathlib.Core.Path.{◌≡◌, refl, sym, subst, ◌∙◌}
-use mathlib.Core.List.{List}
-use Prim.Native.Nat.{ℕ, ◌*◌, ◌-◌, ◌<◌}
-use mathlib.Core.Bool.{true}
-use native.Mathlib.Omega.{arith}
+use mathlib.Core.Path.{◌≡◌}
+use Prim.Native.Nat.{◌*◌}
 use lib.ListN.{length}
-use lib.Ieee.{Float}
-use borrow.Author.Rules.{rules}
 use Rattle.matrix.specs.Size.{max_n}
 use Rattle.rules.specs.State.{after}
-use Rattle.listing.specs.Pages.{UnderWay, goes_on, answered, filled}
-use Rattle.listing.specs.laws.FilledLaws.{Within, answered_within, filled_none, filled_stops, filled_more}
+use Rattle.listing.specs.Pages.{filled}
+use Rattle.listing.specs.laws.FilledLaws.{Within}
 use Rattle.listing.proofs.pages.filled.Given as goal
 
 abbrev pub invariant-loop-left : goal.invariant-loop-left

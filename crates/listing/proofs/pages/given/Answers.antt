@@ -1,5 +1,4 @@
 -- `pages::given` meets its contract, arm by arm. Assumes nothing.
-use borrow.Author.Rules.{rules}
 use Rattle.listing.proofs.pages.given.Goals as goal
 
 pub returns-in-Not : goal.returns-in-Not

@@ -1,5 +1,4 @@
 -- `pages::goes_on` meets its contract, arm by arm. Assumes nothing.
-use borrow.Author.Rules.{rules}
 use Rattle.listing.proofs.pages.goes_on.Goals as goal
 
 pub returns-in-Not : goal.returns-in-Not

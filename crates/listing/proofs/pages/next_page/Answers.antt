@@ -3,7 +3,6 @@ use mathlib.Core.Path.{◌≡◌, refl, ap, ◌∙◌}
 use mathlib.Core.List.{List}
 use Prim.Native.Nat.{ℕ}
 use lib.Ieee.{Float}
-use borrow.Author.Rules.{rules}
 use Rattle.rules.specs.State.{after}
 use Rattle.listing.specs.Pages.{Paged, next_page}
 use Rattle.listing.specs.declared.pages.Page.{Page}

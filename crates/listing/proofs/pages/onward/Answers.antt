@@ -1,6 +1,5 @@
 -- `pages::onward` meets its contract: the test is the definition's. Assumes nothing.
 use mathlib.Core.Path.{sym, ap, ◌∙◌}
-use borrow.Author.Rules.{rules}
 use Rattle.loops.specs.laws.ChoiceLaws.{when_true, when_false}
 use Rattle.rules.specs.State.{After}
 use Rattle.listing.specs.Types.{Turn}

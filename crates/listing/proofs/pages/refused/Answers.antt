@@ -2,14 +2,12 @@
 use mathlib.Core.Path.{◌≡◌, sym, ap, ◌∙◌}
 use mathlib.Core.List.{List}
 use Prim.Native.Nat.{ℕ}
-use borrow.Author.Rules.{rules}
 use Rattle.text.specs.declared.page.Place.{Place}
 use Rattle.text.specs.declared.page.Place.TheVariants.{At}
 use Rattle.text.specs.Page.{Page as Put, puts}
 use Rattle.lines.specs.Lines.{refusal_line}
 use Rattle.listing.specs.Types.{Run}
 use Rattle.listing.specs.Pages.{refused_at}
-use Rattle.listing.specs.declared.pages.Page.{Page}
 use Rattle.listing.proofs.pages.refused.Goals as goal
 
 -- by the place that the line came to

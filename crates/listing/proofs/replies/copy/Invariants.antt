@@ -1,11 +1,7 @@
-use mathlib.Core.Path.{◌≡◌, refl, subst}
-use mathlib.Core.List.{List, ◌++◌}
-use Prim.Native.Nat.{ℕ, suc, ◌+◌, ◌-◌, ◌≤◌, ◌<◌}
-use native.Mathlib.Numerals.{add-one}
-use native.Mathlib.Omega.{arith}
-use lib.ListN.{length, drop, set, get_or, length-set}
-use lib.Seq.{take_all, paste, paste-zero, paste-suc}
-use lib.Ieee.{Float, nan}
+use mathlib.Core.Path.{◌≡◌}
+use Prim.Native.Nat.{◌-◌, ◌≤◌}
+use lib.ListN.{length}
+use lib.Seq.{paste}
 use Rattle.listing.proofs.replies.copy.Given as goal
 
 abbrev pub invariant-loop-i : goal.invariant-loop-i

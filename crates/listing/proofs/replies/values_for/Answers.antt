@@ -7,7 +7,6 @@ use native.Mathlib.Omega.{arith}
 use lib.ListN.{length, take, drop}
 use lib.Seq.{take_at}
 use lib.Ieee.{Float}
-use borrow.Author.Rules.{rules}
 use Rattle.matrix.specs.Size.{max_n}
 use Rattle.text.specs.laws.Fronts.{front, squared}
 use Rattle.job.specs.Right.{right_side_of}
