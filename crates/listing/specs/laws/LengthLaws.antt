@@ -24,7 +24,8 @@ use Rattle.job.specs.Right.{row_sum, right_turn, right_of}
 use Rattle.job.specs.declared.form.Form.{Form}
 use Rattle.job.specs.Packed.{doubles_of}
 use Rattle.job.specs.Reading.{ReadOutcome, form_read, placed, read_of}
-use Rattle.job.specs.laws.ReadingLaws.{form_serves, doubles_long}
+use Rattle.job.specs.laws.ReadingLaws.{doubles_long}
+use Rattle.job.proofs.Serving.{form_serves}
 use Rattle.listing.specs.Types.{Answer, Derivative, Jacobian, Start, Step, End, Refused, Run, Turn}
 use Rattle.listing.specs.Replies.{times_of}
 

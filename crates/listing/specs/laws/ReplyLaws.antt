@@ -1,6 +1,6 @@
 -- What holds of replies: A y does not depend on what stood where it is written, and a state of more components than are served is
 -- refused, whatever is replied.
-use Rattle.std.specs.Prelude.{◌≡◌, refl, ℕ, zero, suc, ◌+◌, ◌*◌, ◌≤◌, ◌<◌, set, Float}
+use Rattle.std.specs.Prelude.{◌≡◌, refl, ℕ, zero, suc, ◌*◌, ◌≤◌, ◌<◌, set, Float}
 use Rattle.std.proofs.Math.Path.{sym}
 use Rattle.std.proofs.Common.{ap, ◌∙◌, add-one, arith, take-suc-set}
 use mathlib.Core.List.{List, [], ◌∷◌, ◌++◌}

@@ -5,7 +5,7 @@ use Rattle.std.proofs.Common.{sym, ◌∙◌, true≢false, append-nil, inl, inr
 use Rattle.loops.specs.Refusal.{gives}
 use Rattle.lines.specs.Types.{Status, Success}
 use Rattle.lines.specs.Lines.{line, hexes, end_line}
-use Rattle.rules.specs.Places.{vector, y-row}
+use Rattle.rules.specs.Places.{vector, y as y_row}
 use Rattle.rules.specs.Answers.{is_end, is_refused}
 use Rattle.rules.specs.State.{After}
 use Rattle.rules.specs.Begin.{ask_first, begin_run}
@@ -119,7 +119,7 @@ pub record LastLines (s : List ℕ) (c : Configuration) (status : Status) (work 
   pub front : List ℕ
   pub told : EndsIn x y front
   pub all : printed s ≡ front ++ last
-  pub held : vector (length c.y0) work y-row ≡ y
+  pub held : vector (length c.y0) work y_row ≡ y
   pub reached : status ≡ Success → Arrived (direction c) c.xend x
 
 pub last_lines :
