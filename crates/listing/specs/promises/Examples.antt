@@ -32,7 +32,7 @@ use Rattle.rules.specs.GoOn.{pivot_outside, limits_damaged, steps_damaged, count
 use Rattle.rules.specs.Answers.{is_question_or_notice}
 use Rattle.rules.specs.Calls.{Configuration, beginning}
 use Rattle.rules.specs.State.{After}
-use Rattle.rules.specs.promises.RunEnds.{most}
+use Rattle.rules.specs.Bounds.{most}
 use Rattle.text.specs.Digits.{digit, spelled, places_within}
 use Rattle.text.specs.Words.{word_from}
 use Rattle.lines.specs.Lines.{spaced, line, hexes}
