@@ -6,7 +6,7 @@ use Rattle.std.proofs.Common.{sym, ap, ◌∙◌, zero-add, add-one, arith, leng
 use Rattle.std.proofs.lemmas.List.{replicate-append-replicate}
 use Rattle.std.proofs.Math.Seq.{length-take-le}
 use borrow.Author.Tests.{le-ltb}
-use Rattle.loops.specs.Choice.{if◌then◌else◌}
+use Rattle.loops.specs.Choice.{when◌then◌else◌}
 use Rattle.loops.specs.Loop.{loop}
 use Rattle.loops.specs.laws.Turned.{loop_more}
 use Rattle.loops.specs.Arithmetic.{+0}
@@ -100,8 +100,8 @@ go_on_agrees {g} {h} r values ws ws' q q' a kept kept' e =
 
 -- two choices by the same test
 both_ways : (b : Bool) {g g' h h' : After Turn} → (b ≡ true → Agree g g') → (b ≡ false → Agree h h')
-    → Agree (if b then g else h) (if b then g' else h')
-unfolding if◌then◌else◌
+    → Agree (when b then g else h) (when b then g' else h')
+unfolding when◌then◌else◌
 both_ways true f k = f refl
 both_ways false f k = k refl
 

@@ -2,7 +2,7 @@
 use Rattle.std.specs.Prelude.{◌≡◌, List, Bool, ◌≤◌, ◌<◌, Float}
 use Rattle.std.proofs.Math.Path.{refl}
 use Rattle.std.proofs.Common.{inl, inr, le_trans, arith, leb-true, leb-false, le-leb}
-use Rattle.loops.specs.Choice.{if◌then◌else◌}
+use Rattle.loops.specs.Choice.{when◌then◌else◌}
 use Rattle.loops.specs.laws.ChoiceLaws.{either, when_true}
 use Rattle.rules.specs.Types.{Progress, Pace, Success, NeedLargerNMax, StepSizeTooSmall}
 use Rattle.rules.specs.State.{with_pace, changed, After, after, Left, left}
@@ -16,7 +16,7 @@ use Rattle.rules.specs.declared.stages.Aimed.TheVariants.{At, AtEnd}
 -- ---- the step's size: a step that is changed is the first of its size
 
 changed_or_same :
-    (b : Bool) (h : Float) (g : Pace) (v ws : List Float) → (if b then left (changed h) v else left g ws).is.equal_steps ≤ g.equal_steps
+    (b : Bool) (h : Float) (g : Pace) (v ws : List Float) → (when b then left (changed h) v else left g ws).is.equal_steps ≤ g.equal_steps
 changed_or_same b h g v ws = either (λ (a : Left Pace). a.is.equal_steps ≤ g.equal_steps) b (λ _. omega arith) (λ _. omega arith)
 
 fitted_equals : (p : Progress) (ws : List Float) → (fitted p ws).is.equal_steps ≤ p.pace.equal_steps

@@ -6,7 +6,7 @@ use native.Mathlib.Omega.{arith}
 use Rattle.std.specs.Float.Ieee
 use Rattle.std.proofs.Common.{leb-true, le-leb, ltb-false}
 use Rattle.std.proofs.lemmas.Bool.{eqb-false}
-use Rattle.loops.specs.Choice.{if◌then◌else◌}
+use Rattle.loops.specs.Choice.{when◌then◌else◌}
 use Rattle.loops.specs.laws.ChoiceLaws.{and_first, and_second}
 use Rattle.rules.specs.Types.{Tolerance, Scalar, Vector, Relative, Absolute, NegativeTolerance}
 use Rattle.loops.specs.Arithmetic.{+0}
@@ -31,17 +31,17 @@ vector_reaches values n e h = leb-true n (length values) (rw e at h)
 module _ (r : Tolerance) (rs : List Float) (a : Tolerance) (als : List Float) {n i : ℕ} where
   pub relative_found :
       {v : Float} → i < n → v ≡ entry r rs i → Ieee.lt v +0 ≡ true → negative r rs a als (n - i) i ≡ Refuse (NegativeTolerance Relative i v)
-  unfolding negative if◌then◌else◌
+  unfolding negative when◌then◌else◌
   relative_found l e t = let s : n - i ≡ suc (n - (i + 1)) = omega arith in rw (s, ← e, t)
 
   pub absolute_found : {v w : Float} → i < n → v ≡ entry r rs i → Ieee.lt v +0 ≡ false → w ≡ entry a als i → Ieee.lt w +0 ≡ true
       → negative r rs a als (n - i) i ≡ Refuse (NegativeTolerance Absolute i w)
-  unfolding negative if◌then◌else◌
+  unfolding negative when◌then◌else◌
   absolute_found l e t f u = let s : n - i ≡ suc (n - (i + 1)) = omega arith in rw (s, ← e, t, ← f, u)
 
   pub none_negative_here : {v w : Float} → i < n → v ≡ entry r rs i → Ieee.lt v +0 ≡ false → w ≡ entry a als i → Ieee.lt w +0 ≡ false
       → negative r rs a als (n - i) i ≡ negative r rs a als (n - (i + 1)) (i + 1)
-  unfolding negative if◌then◌else◌
+  unfolding negative when◌then◌else◌
   none_negative_here l e t f u = let s : n - i ≡ suc (n - (i + 1)) = omega arith in rw (s, ← e, t, ← f, u)
 
   pub none_left : n ≤ i → negative r rs a als (n - i) i ≡ Passed

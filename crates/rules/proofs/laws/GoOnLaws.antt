@@ -4,7 +4,7 @@ use Rattle.std.specs.Prelude.{◌≡◌, refl, List, Bool, true, false, ◌||◌
 use Rattle.std.proofs.Common.{sym, arith}
 use Rattle.std.proofs.Math.Bool.{true≢false}
 use borrow.Author.Tests.{ltb-false, eqb-false, le-ltb}
-use Rattle.loops.specs.Choice.{if◌then◌else◌}
+use Rattle.loops.specs.Choice.{when◌then◌else◌}
 use Rattle.loops.specs.laws.ChoiceLaws.{false_unless}
 use Rattle.rules.specs.Types.{Awaited, Reply, Progress, HasEnded}
 use Rattle.matrix.specs.Size.{max_n}
@@ -22,8 +22,8 @@ use Rattle.rules.specs.declared.stages.Check.TheVariants.{Refuse, Passed}
 -- ---- the state
 
 -- what `if many then true else if none then x else y` says where it is false
-undamaged : (b c x y : Bool) → (if b then true else if c then x else y) ≡ false → (b ≡ false) × (c ≡ true → x ≡ false) × (c ≡ false → y ≡ false)
-unfolding if◌then◌else◌
+undamaged : (b c x y : Bool) → (when b then true else when c then x else y) ≡ false → (b ≡ false) × (c ≡ true → x ≡ false) × (c ≡ false → y ≡ false)
+unfolding when◌then◌else◌
 undamaged true c x y e = absurd (true≢false e)
 undamaged false true x y e = (refl, (λ t. e), (λ f. absurd (true≢false f)))
 undamaged false false x y e = (refl, (λ t. absurd (true≢false (sym t))), (λ f. e))
@@ -90,10 +90,10 @@ module _ (w : Awaited) (p : Progress) (r : Reply) (values room questions : ℕ) 
   pub suited_passes :
       {k : ℕ} → is_ended w ≡ false → wants p.n w r ≡ Count k → need p.n ≤ room → 8 * p.n ≤ questions → k ≤ values →
       go_checked w p r values room questions ≡ Passed
-  unfolding go_checked if◌then◌else◌
+  unfolding go_checked when◌then◌else◌
   suited_passes {k} going suits works asks enough =
       rw (whole, going, suits, le-ltb room (need p.n) works, le-ltb questions (8 * p.n) asks, le-ltb values k enough)
 
   pub ended_refuses : is_ended w ≡ true → go_checked w p r values room questions ≡ Refuse HasEnded
-  unfolding go_checked if◌then◌else◌
+  unfolding go_checked when◌then◌else◌
   ended_refuses over = rw (whole, over)

@@ -2,7 +2,7 @@
 use Rattle.std.specs.Prelude.{◌≡◌, refl, List, [], ◌∷◌, true, false, ℕ, ◌+◌, ◌-◌, ◌≤◌, ltb, length}
 use Rattle.std.proofs.Common.{true≢false, arith}
 use borrow.Author.Tests.{lt-ltb, le-ltb}
-use Rattle.loops.specs.Choice.{if◌then◌else◌}
+use Rattle.loops.specs.Choice.{when◌then◌else◌}
 use Rattle.loops.specs.laws.ChoiceLaws.{either, when_true, when_false, and_fails, and_passes}
 use Rattle.rules.specs.Types.{Answer, Run, Derivative, Jacobian, Start, Step, End, Refused}
 use Rattle.rules.specs.Answers.{is_end, is_refused}
@@ -53,7 +53,7 @@ module _ (c : Configuration) where
       when_false 1 0 (and_fails (is_unset c.settings.first_step) (λ _. and_fails (ltb 0 (length c.y0)) (λ _. le-ltb 2 (length h) few)))
 
   pub automatic_given : (h : List Answer) → is_unset c.settings.first_step ≡ false → automatic_start c h ≡ 0
-  unfolding automatic_start if◌then◌else◌
+  unfolding automatic_start when◌then◌else◌
   automatic_given h given = rw given
 
   pub automatic_asked : (h : List Answer) → is_unset c.settings.first_step ≡ true → 1 ≤ length c.y0 → 3 ≤ length h → automatic_start c h ≡ 1

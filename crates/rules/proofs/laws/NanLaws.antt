@@ -6,7 +6,7 @@ use Rattle.std.proofs.Common.{sym, ◌∙◌, true≢false}
 use Rattle.std.proofs.lemmas.Bool.{false≢true}
 use Rattle.std.specs.Float.{nan, inf, fin}
 use Rattle.std.specs.Float.Ieee.{lt, is_nan}
-use Rattle.loops.specs.Choice.{if◌then◌else◌}
+use Rattle.loops.specs.Choice.{when◌then◌else◌}
 use Rattle.loops.specs.laws.ChoiceLaws.{through, when_true, when_false, and_first, and_second, false_unless}
 use Rattle.loops.specs.Arithmetic.{◌⊗◌, one}
 use Rattle.number.specs.Helpers.{max_of}
@@ -84,7 +84,7 @@ module _ (p : Progress) (ws q : List Float) where
   pub judged_unguarded :
       is_guarded p ≡ false →
       judged p ws q ≡
-      (if lt one (judged_norm p ws)
+      (when lt one (judged_norm p ws)
       then rejected_after (max_of (safety_at p ⊗ inverse_root (p.order + 1) (judged_norm p ws)) min_factor) p ws q
       else step_accepted p (safety_at p) (judged_norm p ws) (error_ws p.n p.order ws) q)
   unfolding judged error_rejected

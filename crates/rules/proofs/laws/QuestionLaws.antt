@@ -5,7 +5,7 @@ use Rattle.std.proofs.Math.Path.{refl}
 use Rattle.std.proofs.Common.{sym, ap, ◌∙◌, subst, append_assoc, arith, length-drop, length-append, length-take-le, take_at, drop-drop}
 use Rattle.std.proofs.Math.Bool.{true, false}
 use Rattle.std.proofs.Math.Seq.{drop-append_seam}
-use Rattle.loops.specs.Choice.{if◌then◌else◌}
+use Rattle.loops.specs.Choice.{when◌then◌else◌}
 use Rattle.loops.specs.Part.{part}
 use Rattle.loops.specs.laws.RowLaws.{row_within}
 use Rattle.rules.specs.Types.{Turn}
@@ -54,8 +54,8 @@ module _ {A : Type 0} {Fits : A → ℕ → Type 0} {n : ℕ} where
 
   -- either way of a choice that does not read the slice
   pub speaks_either : (b : Bool) {f g : List Float → After A} → (b ≡ true → Speaks Fits n f) → (b ≡ false → Speaks Fits n g)
-      → Speaks Fits n (λ q. if b then f q else g q)
-  unfolding if◌then◌else◌
+      → Speaks Fits n (λ q. when b then f q else g q)
+  unfolding when◌then◌else◌
   speaks_either true s t = s refl
   speaks_either false s t = t refl
 

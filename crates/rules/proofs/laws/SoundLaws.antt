@@ -1,7 +1,7 @@
 -- In every exchange the state is sound, by how its counters stand: so it is not damaged.
 use Rattle.std.specs.Prelude.{◌≡◌, refl, List, true, false, ℕ, ◌≤◌}
 use Rattle.std.proofs.Common.{sym, true≢false, arith}
-use Rattle.loops.specs.Choice.{if◌then◌else◌}
+use Rattle.loops.specs.Choice.{when◌then◌else◌}
 use Rattle.rules.specs.Types.{Answer, Progress, Run, Awaited, FirstDerivative, FirstJacobian, StartDerivative, StartNotice, ModifiedStartDerivative, ModifiedStartJacobian, NewtonDerivative, FailedJacobian, StepNotice, ModifiedStepDerivative, ModifiedStepJacobian, OrderJacobian, Ended}
 use Rattle.rules.specs.Replies.{awaits_newton}
 use Rattle.rules.specs.Begin.{nothing}
@@ -42,7 +42,7 @@ stands_sound {c} {w = w} {p = p} {h} s i =
     }
 
 pub nothing_undamaged : damaged Ended nothing ≡ false
-unfolding damaged if◌then◌else◌
+unfolding damaged when◌then◌else◌
 nothing_undamaged = refl
 
 pub kept_undamaged : {c : Configuration} {run : Run} {h : List Answer} → Kept c run h → damaged run.awaited run.at ≡ false

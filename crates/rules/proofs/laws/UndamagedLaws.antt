@@ -2,7 +2,7 @@
 use Rattle.std.specs.Prelude.{◌≡◌, false, ◌+◌, ◌*◌, ◌≤◌}
 use Rattle.std.proofs.Common.{arith, le-leb, le-ltb, ne_eqb}
 use Rattle.std.proofs.lemmas.Bool.{lt-leb}
-use Rattle.loops.specs.Choice.{if◌then◌else◌}
+use Rattle.loops.specs.Choice.{when◌then◌else◌}
 use Rattle.loops.specs.laws.ChoiceLaws.{and_fails}
 use Rattle.rules.specs.Types.{Awaited, Progress}
 use Rattle.matrix.specs.Size.{max_n}
@@ -38,7 +38,7 @@ counters_undamaged p s =
     )
 
 pub sound_undamaged : (w : Awaited) (p : Progress) → 1 ≤ p.n → p.n ≤ max_n → pivot_outside p.n p.pivot ≡ false → Sound w p → damaged w p ≡ false
-unfolding damaged damaged_above0 if◌then◌else◌
+unfolding damaged damaged_above0 when◌then◌else◌
 sound_undamaged w p some few inside s =
     rw (
       le-ltb max_n p.n few,

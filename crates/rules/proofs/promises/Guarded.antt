@@ -10,7 +10,7 @@ use Rattle.std.proofs.Common.{◌∙◌, arith}
 use Rattle.std.proofs.Math.Bool.{true, false}
 use Rattle.std.proofs.lemmas.Bool.{false≢true}
 use Rattle.std.specs.Float.Ieee.{lt, is_nan}
-use Rattle.loops.specs.Choice.{if◌then◌else◌}
+use Rattle.loops.specs.Choice.{when◌then◌else◌}
 use Rattle.loops.specs.laws.ChoiceLaws.{false_unless}
 use Rattle.loops.specs.Arithmetic.{◌⊗◌, one}
 use Rattle.number.specs.Helpers.{max_of}
@@ -49,7 +49,7 @@ guarded_nan_is_rejected p ws q on e = judged_guarded_nan p ws q on e
 pub unguarded_rejects_above_1_alone :
     (p : Progress) (ws q : List Float) → is_guarded p ≡ false →
     judged p ws q ≡
-    (if lt one (judged_norm p ws)
+    (when lt one (judged_norm p ws)
     then rejected_after (max_of (safety_at p ⊗ inverse_root (p.order + 1) (judged_norm p ws)) min_factor) p ws q
     else step_accepted p (safety_at p) (judged_norm p ws) (error_ws p.n p.order ws) q)
 unguarded_rejects_above_1_alone p ws q off = judged_unguarded p ws q off

@@ -6,7 +6,7 @@ use Rattle.std.proofs.Common.{sym, ap, ◌∙◌}
 use Rattle.std.proofs.lemmas.Bool.{false≢true}
 use Rattle.std.specs.Float.{nan, inf, fin}
 use Rattle.std.specs.Float.Ieee.{of_bits, of_int, add, sub, mul, div, neg, eq, lt, le}
-use Rattle.loops.specs.Choice.{if◌then◌else◌}
+use Rattle.loops.specs.Choice.{when◌then◌else◌}
 use Rattle.loops.specs.laws.ChoiceLaws.{when_true}
 use Rattle.loops.specs.Loop.{loop, turns}
 use Rattle.loops.specs.Arithmetic.{◌⊖◌, +0, one}
@@ -34,7 +34,7 @@ factor_1_changes_nothing n order d = when_true _ _ refl
 -- a sum starts from +0, so that -0 in D vanishes: order 1, D -0, -0, by 0.5
 pub sums_start_from_0 :
     change_d 1 1 (fin false 1 (negsuc 0)) (fin true 0 (pos 0) ∷ fin true 0 (pos 0) ∷ []) ≡ fin false 0 (pos 0) ∷ fin false 0 (pos 0) ∷ []
-unfolding if◌then◌else◌ loop turns of_bits of_int add sub mul div eq first_row m_turn m_row m_table r_turn r_row r_table compute_r scaled_turn add_scaled product_turn product_row matmul new_row_turn new_row new_rows load_turn loaded rescaled change_d
+unfolding when◌then◌else◌ loop turns of_bits of_int add sub mul div eq first_row m_turn m_row m_table r_turn r_row r_table compute_r scaled_turn add_scaled product_turn product_row matmul new_row_turn new_row new_rows load_turn loaded rescaled change_d
 sums_start_from_0 = refl
 
 -- ---- the starting step
@@ -81,11 +81,11 @@ old_x_and_start p safety norm ws q = refl
 
 -- of equal factors the last wins; a NaN compares as equal, as the best so far and as the one met
 pub last_of_equals : (best_of one one +0 ≡ 1) × (best_of one one one ≡ 2)
-unfolding best_of if◌then◌else◌ lt le of_bits
+unfolding best_of when◌then◌else◌ lt le of_bits
 last_of_equals = (refl, refl)
 
 pub nan_as_equal : (best_of nan one +0 ≡ 1) × (best_of one nan nan ≡ 2)
-unfolding best_of if◌then◌else◌ lt le of_bits
+unfolding best_of when◌then◌else◌ lt le of_bits
 nan_as_equal = (refl, refl)
 
 -- ---- a start that the caller modified

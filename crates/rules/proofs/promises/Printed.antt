@@ -6,7 +6,7 @@
 use Rattle.std.specs.Prelude.{◌≡◌, refl, false, List, [], ◌∷◌, ℕ, pos, negsuc, replicate, Float}
 use Rattle.std.specs.Float.{nan, fin}
 use Rattle.std.specs.Float.Ieee.{is_nan, of_bits, of_int, add, sub, mul, div, neg, eq, ne, lt, le}
-use Rattle.loops.specs.Choice.{if◌then◌else◌}
+use Rattle.loops.specs.Choice.{when◌then◌else◌}
 use Rattle.loops.specs.Loop.{turns, loop}
 use Rattle.number.specs.Helpers.{abs_of, signum_of, min_of, max_of}
 use Rattle.roots.specs.Roots.{sqrt_of}
@@ -175,7 +175,7 @@ pub record Computed : Type 0 where
   pub no_nan : NoNan (beginning (job 100000) (replicate 35 nan) (replicate 8 nan)) (replies nought)
 
 pub computed : Computed
-unfolding later if◌then◌else◌ turns loop abs_of signum_of min_of max_of sqrt_of sized_of single_of lu_decomp_of inside_of divided_of solved_of lin_solve_of gammas alphas error_consts copy_turn copied fill_turn filled load_turn loaded predicted_turn predicted predict_turn predict scale_of scale_turn scaled psi_sum_turn psi_sum psi_turn psied square_of square_turn sum_of_squares rhs_norm matrix_turn matrix_cells diagonal matrix_row matrix factored residual_turn residual solved correction advance_turn advanced converged safety_of weigh_turn weighed newest_turn newest add_next_turn add_next summed_turn summed coeff coeff_turn coeffs cont_turn prepared accepted_ws to_hmax to_hmin aimed newton_start must_factor refactored predicted_all attempt_at unless_stuck fitted fitted_attempt attempt tries main_loop step_accepted error_fails error_ws judged iterated newton_replied jacobian_stored first_turn first_difference differences squares_turn squares raw_guess first_guess guess euler_turn euler second_turn second h1 final_guess hinit within_span started hinit_asks first_step hinit_replied stepped newton_turn first_derivative first_jacobian negative limited tolerances_checked checked span_of kept begin_ws ask_first begin_run begin_of pivot_outside limits_damaged steps_damaged counters_damaged damaged_above0 damaged go_checked go_within go_on_of meets_nan is_nan of_bits of_int add sub mul div neg eq lt le ne kappa
+unfolding later when◌then◌else◌ turns loop abs_of signum_of min_of max_of sqrt_of sized_of single_of lu_decomp_of inside_of divided_of solved_of lin_solve_of gammas alphas error_consts copy_turn copied fill_turn filled load_turn loaded predicted_turn predicted predict_turn predict scale_of scale_turn scaled psi_sum_turn psi_sum psi_turn psied square_of square_turn sum_of_squares rhs_norm matrix_turn matrix_cells diagonal matrix_row matrix factored residual_turn residual solved correction advance_turn advanced converged safety_of weigh_turn weighed newest_turn newest add_next_turn add_next summed_turn summed coeff coeff_turn coeffs cont_turn prepared accepted_ws to_hmax to_hmin aimed newton_start must_factor refactored predicted_all attempt_at unless_stuck fitted fitted_attempt attempt tries main_loop step_accepted error_fails error_ws judged iterated newton_replied jacobian_stored first_turn first_difference differences squares_turn squares raw_guess first_guess guess euler_turn euler second_turn second h1 final_guess hinit within_span started hinit_asks first_step hinit_replied stepped newton_turn first_derivative first_jacobian negative limited tolerances_checked checked span_of kept begin_ws ask_first begin_run begin_of pivot_outside limits_damaged steps_damaged counters_damaged damaged_above0 damaged go_checked go_within go_on_of meets_nan is_nan of_bits of_int add sub mul div neg eq lt le ne kappa
 computed =
     record {
       printed = refl;

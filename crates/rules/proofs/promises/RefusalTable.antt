@@ -7,7 +7,7 @@ use Rattle.std.proofs.Math.Option.{Option, none, some, some-ne-none}
 use Rattle.std.proofs.Math.Dec.{ltb}
 use Rattle.std.proofs.Math.ListN.{length}
 use Rattle.std.specs.Float.Ieee
-use Rattle.loops.specs.Choice.{if◌then◌else◌}
+use Rattle.loops.specs.Choice.{when◌then◌else◌}
 use Rattle.loops.specs.Arithmetic.{◌⊖◌, +0}
 use Rattle.number.specs.Helpers.{signum_of}
 use Rattle.rules.specs.Types.{Setting, Unset, Given, Tolerance, Scalar, Vector, Relative, Absolute, Answer, Derivative, Jacobian, Start, Step, End, Refused, Success, Ended, Run, Turn}
@@ -40,7 +40,7 @@ row applies number carried = record { applies = applies; tells = (number, carrie
 -- from the top down: the first row that applies, or nothing
 abbrev pub first_of : List Row → Option Told
 first_of [] = none
-first_of (r ∷ rows) = if r.applies then some r.tells else first_of rows
+first_of (r ∷ rows) = when r.applies then some r.tells else first_of rows
 
 -- ---- 1 to 8, at a beginning
 
@@ -81,7 +81,7 @@ check_rows c room questions =
 -- the whole: with n = 0 it ends before 2 to 8
 abbrev pub begin_table : Configuration → ℕ → ℕ → List Row
 begin_table c room questions =
-    row (ltb 32 (length c.y0)) 1 bare ∷ (if eqb (length c.y0) 0 then [] else check_rows c room questions)
+    row (ltb 32 (length c.y0)) 1 bare ∷ (when eqb (length c.y0) 0 then [] else check_rows c room questions)
 
 -- ---- 9 to 12, at going on
 
@@ -115,16 +115,16 @@ tells (Refuse why) = some (told why)
 -- a choice tells what the way tells that it takes
 choice_tells :
     {A : Type 0} (says : A → Option Told) (b : Bool) (x y : A) {m n : Option Told} → says x ≡ m → says y ≡ n →
-    says (if b then x else y) ≡ (if b then m else n)
-unfolding if◌then◌else◌
+    says (when b then x else y) ≡ (when b then m else n)
+unfolding when◌then◌else◌
 choice_tells says true x y p q = p
 choice_tells says false x y p q = q
 
 -- two conditions that must hold both are a row that applies where one fails
 condition_tells :
     (b c : Bool) (x y : Check) {m n : Option Told} → tells x ≡ m → tells y ≡ n →
-    tells (if b && c then x else y) ≡ (if (not b || not c) then n else m)
-unfolding if◌then◌else◌
+    tells (when b && c then x else y) ≡ (when (not b || not c) then n else m)
+unfolding when◌then◌else◌
 condition_tells true true x y p q = p
 condition_tells true false x y p q = q
 condition_tells false c x y p q = q
@@ -175,10 +175,10 @@ module _ (c : Configuration) (ws q : List Float) where
 reply_tells :
     (v : Wants) (n values room questions : ℕ) →
     tells (count_checked v n values room questions) ≡
-    (if unsuited v then some (11, bare)
-    else if (ltb room (need n) || (ltb questions (8 * n) || ltb values (wanted v))) then some (12, bare)
+    (when unsuited v then some (11, bare)
+    else when (ltb room (need n) || (ltb questions (8 * n) || ltb values (wanted v))) then some (12, bare)
     else none)
-unfolding if◌then◌else◌
+unfolding when◌then◌else◌
 reply_tells Unsuited n values room questions = refl
 reply_tells (Count k) n values room questions = choice_tells tells (ltb room (need n) || (ltb questions (8 * n) || ltb values k)) _ _ refl refl
 
@@ -190,8 +190,8 @@ refusal g = refusal_of g.is.answer
 
 -- rows that do not count where a test passes
 rows_chosen : (b : Bool) (x y : After Turn) (rows : List Row) → refusal x ≡ none → refusal y ≡ first_of rows →
-    refusal (if b then x else y) ≡ first_of (if b then [] else rows)
-unfolding if◌then◌else◌
+    refusal (when b then x else y) ≡ first_of (when b then [] else rows)
+unfolding when◌then◌else◌
 rows_chosen true x y rows p q = p
 rows_chosen false x y rows p q = q
 
@@ -211,7 +211,7 @@ beginning_is_refused_by_the_table c ws q =
 -- with n = 0 it has ended at once, whatever 2 to 8 would say: Success, step size 0, and the slices as they were
 pub beginning_of_nothing_ends :
     (c : Configuration) (ws q : List Float) → length c.y0 ≡ 0 → beginning c ws q ≡ after (turn (End Success +0) Ended nothing) ws q
-unfolding begin_of if◌then◌else◌
+unfolding begin_of when◌then◌else◌
 beginning_of_nothing_ends c ws q empty = rw empty
 
 -- with n above 0 and no row that applies it asks the first derivative

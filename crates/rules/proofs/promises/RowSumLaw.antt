@@ -5,7 +5,7 @@ use Rattle.std.proofs.Common.{sym, ap, ◌∙◌, inl, inr, eq-or-lt_of_le, le_o
 use Rattle.std.specs.Float.Ieee
 use Rattle.std.specs.Float.{nan}
 use Rattle.std.proofs.lemmas.List.{length-replicate, get_or-replicate}
-use Rattle.loops.specs.Choice.{if◌then◌else◌}
+use Rattle.loops.specs.Choice.{when◌then◌else◌}
 use Rattle.loops.specs.laws.ChoiceLaws.{either, when_true, when_false}
 use Rattle.loops.specs.Loop.{loop}
 use Rattle.loops.specs.laws.Turned.{loop_none, loop_more}
@@ -21,7 +21,7 @@ use Rattle.rules.specs.Rescale.{scaled_turn, add_scaled, new_row_turn, new_row, 
 
 -- sum += ru[k][i] * d[k][j]
 unfoldable pub row_sum_turn : ℕ → List Float → List Float → ℕ → ℕ → ℕ → Float → Float
-row_sum_turn n ru d i j k sum = if Ieee.eq (cell 6 ru k i) +0 then sum else sum ⊕ cell 6 ru k i ⊗ cell n d k j
+row_sum_turn n ru d i j k sum = when Ieee.eq (cell 6 ru k i) +0 then sum else sum ⊕ cell 6 ru k i ⊗ cell n d k j
 
 unfoldable pub row_sum : ℕ → List Float → List Float → ℕ → ℕ → ℕ → Float
 row_sum n ru d size i j = loop 0 size (row_sum_turn n ru d i j) +0
@@ -67,7 +67,7 @@ row_done g s r n h =
 
 record Added (n : ℕ) (c : Float) (d : List Float) (k i : ℕ) (s t : List Float) : Type 0 where
   long : length t ≡ length s
-  row : (j : ℕ) → j < n → at t (i * n + j) ≡ (if Ieee.eq c +0 then at s (i * n + j) else at s (i * n + j) ⊕ c ⊗ cell n d k j)
+  row : (j : ℕ) → j < n → at t (i * n + j) ≡ (when Ieee.eq c +0 then at s (i * n + j) else at s (i * n + j) ⊕ c ⊗ cell n d k j)
   rest : (p : ℕ) → (p < i * n) ⊎ (i * n + n ≤ p) → at t p ≡ at s p
 
 added : (n : ℕ) (c : Float) (d : List Float) (k i : ℕ) (s : List Float) → i * n + n ≤ length s → Added n c d k i s (add_scaled n n c d k i s)

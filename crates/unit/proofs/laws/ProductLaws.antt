@@ -4,7 +4,7 @@ use Rattle.std.specs.Prelude.{◌≡◌, ℕ, ◌<◌, Float}
 use Rattle.std.proofs.Math.Path.{ap}
 use mathlib.Core.List.{List}
 use Rattle.std.specs.Float.Ieee
-use Rattle.loops.specs.Choice.{if◌then◌else◌}
+use Rattle.loops.specs.Choice.{when◌then◌else◌}
 use Rattle.loops.specs.Loop.{loop}
 use Rattle.loops.specs.Cell.{cell}
 use Rattle.loops.specs.Arithmetic.{+0}
@@ -18,7 +18,7 @@ module _ (size : ℕ) (t u : List Float) (same : (k j : ℕ) → k < size → j 
   added_by_either : (coeff : Float) (k i : ℕ) (to : List Float) → k < size → add_scaled 6 size coeff t k i to ≡ add_scaled 6 size coeff u k i to
   unfolding add_scaled scaled_turn
   added_by_either coeff k i to below =
-      ap (λ (l : List Float). if Ieee.eq coeff +0 then to else l)
+      ap (λ (l : List Float). when Ieee.eq coeff +0 then to else l)
       (same_turns size (scaled_turn 6 coeff t k i) (scaled_turn 6 coeff u k i) to (λ j to within. rw (same k j below within)))
 
   pub product_by_either : (a : List Float) → matmul a t size ≡ matmul a u size
