@@ -12,12 +12,11 @@ use Rattle.rules.specs.declared.types.Awaited.{Awaited}
 use Rattle.rules.specs.declared.types.Turn.{Turn}
 use Rattle.rules.specs.State.{After, after}
 use Rattle.rules.specs.laws.Ready.{Sane, Ready, Awake, Handed}
-use Rattle.rules.specs.Attempt.{Tried, rejected, says, main_loop}
+use Rattle.rules.specs.Attempt.{Tried, rejected, says, main_loop, rest}
 use Rattle.rules.specs.Step.{newton_replied}
 use Rattle.rules.specs.Replies.{wants, values_want}
 use Rattle.rules.specs.Reply.{stepped, newton_turn, restarted, replied}
-use Rattle.rules.specs.laws.ReplyLaws.{replied_ready}
-use Rattle.rules.specs.laws.MainLoopLaws.{rest}
+use Rattle.rules.proofs.laws.ReplyLaws.{replied_ready}
 use Rattle.bdf.specs.declared.carried.Core.{Core}
 use Rattle.bdf.specs.declared.carried.Outcome.{Outcome}
 use Rattle.bdf.specs.declared.carried.Next.{Next}

@@ -1,14 +1,57 @@
--- What both readers know of a form that `form_read` gave: the arrays have room for its components, and its file is long enough.
-use mathlib.Core.Path.{◌≡◌, sym, ap, ◌∙◌}
-use mathlib.Core.List.{List}
-use Prim.Native.Nat.{ℕ, ◌*◌, ◌≤◌}
-use native.Mathlib.Nat.{mul-le-mul}
+-- What holds of a form or a job that was read: it has at most as many components as are served, so that the arrays have room for them, and its
+-- file is as long as they make it. An edit of `head_read` is to be refused for what it says, so this stands here and not in specs/.
+use Rattle.std.specs.Prelude.{◌≡◌, refl, true, List, ℕ, ◌*◌, ◌≤◌, ltb, length, Float}
+use Rattle.std.proofs.Common.{sym, ap, ◌∙◌, ltb-false}
+use Rattle.std.proofs.Math.Nat.{mul-le-mul}
+use Rattle.loops.specs.laws.ChoiceLaws.{either}
+use Rattle.loops.specs.Refusal.{Outcome, gives, refuses}
+use Rattle.job.specs.declared.packed.Head.{Head}
 use Rattle.job.specs.declared.form.Form.{Form}
 use Rattle.job.specs.declared.form.FormReading.{FormReading}
 use Rattle.job.specs.declared.form.FormReading.TheVariants.{Read}
+use Rattle.job.specs.declared.reader.Job.{Job}
 use Rattle.job.specs.Types.{max_n}
-use Rattle.job.specs.Reading.{form_read, form_reading_of}
-use Rattle.job.specs.laws.ReadingLaws.{Served, form_serves}
+use Rattle.job.specs.Packed.{head_length, head_bits, head_of, length_for}
+use Rattle.job.specs.Reading.{accepted_of, form_of, head_read, form_read, form_reading_of, job_of, placed, read_of}
+use Rattle.job.specs.laws.ReadingLaws.{refuses_nothing, accepted_length}
+
+-- ---- a form that was read
+
+-- a form of at most max_n components, in a file as long as they make it
+pub record Served (s : List ℕ) (f : Form) : Type 0 where
+  pub few : f.n ≤ max_n
+  pub long : length s ≡ length_for f.n
+
+abbrev AllServed : List ℕ → Outcome Form → Type 0
+AllServed s r = (f : Form) → r ≡ gives f → Served s f
+
+refusal_serves : (s : List ℕ) (number : ℕ) → AllServed s (refuses number)
+refusal_serves s number f e = refuses_nothing e
+
+head_serves : (s : List ℕ) (h : Head) → AllServed s (head_read s h)
+unfolding head_read form_of
+head_serves s h =
+    either (AllServed s) (ltb max_n h.n) (λ _. refusal_serves s 1)
+    (λ few. either (AllServed s) (accepted_of s h)
+    (λ accepts f e. let same : form_of s h ≡ f = cc in rw (← same) record { few = ltb-false max_n h.n few; long = accepted_length s h accepts })
+    (λ _. refusal_serves s 17))
+
+pub form_serves : (s : List ℕ) → AllServed s (form_read s)
+unfolding form_read
+form_serves s = either (AllServed s) (ltb (length s) head_length) (λ _. refusal_serves s 17) (λ _. head_serves s (head_of (head_bits s)))
+
+-- ---- a job that was read
+
+placed_serves : (s : List ℕ) (r : Outcome Form) (y0 a : List Float) → AllServed s r → (j : Job) → (placed s r y0 a).0 ≡ gives j → j.n ≤ max_n
+unfolding job_of
+placed_serves s (gives f) y0 a serves j e = let same : job_of f ≡ j = cc in rw (← same) (serves f refl).few
+placed_serves s (refuses number) y0 a serves j e = refuses_nothing e
+
+pub read_serves : (s : List ℕ) (y0 a : List Float) → (j : Job) → (read_of s y0 a).0 ≡ gives j → j.n ≤ max_n
+unfolding read_of
+read_serves s y0 a = placed_serves s (form_read s) y0 a (form_serves s)
+
+-- ---- what a reader knows
 
 module _ (s : List ℕ) {r : FormReading} (is : form_reading_of r ≡ form_read s) where
   pub served : (f : Form) → r ≡ Read f → Served s f

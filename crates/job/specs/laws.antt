@@ -5,7 +5,6 @@ pub mod HeadLaws
 pub mod JoinedLaws
 pub mod LaidLaws
 pub mod FitLaws
-pub mod PackedLaws
 pub mod BeginLaws
 pub mod BeginningLaws
 pub mod JudgedLaws

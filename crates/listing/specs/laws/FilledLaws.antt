@@ -2,7 +2,6 @@
 use Rattle.std.specs.Prelude.{◌≡◌, refl, true, false, List, ℕ, zero, suc, ◌-◌, ◌≤◌, ◌<◌, length, Float}
 use Rattle.std.proofs.Common.{sym, ◌∙◌, subst, arith}
 use Rattle.std.proofs.Math.Path.{ap}
-use Rattle.loops.specs.Choice.{if◌then◌else◌}
 use Rattle.loops.specs.laws.ChoiceLaws.{either, when_true, when_false}
 use Rattle.text.specs.declared.page.Place.{Place}
 use Rattle.text.specs.declared.page.Place.TheVariants.{At, Full}

@@ -1,13 +1,12 @@
 -- The pages of a listing, one after another, are the whole output: whatever bytes are lent for each, what they have given so far is
 -- the beginning of `printed`, and once the listing is over it is all of it. The file is opened with a workspace and a question slice of
 -- zeros, as the job program does, and each page takes over the listing, A and both slices as the one before left them.
-use Rattle.std.specs.Prelude.{◌≡◌, true, false, length, take, Float}
+use Rattle.std.specs.Prelude.{◌≡◌, true, length, take, Float}
 use Rattle.std.proofs.Math.Path.{refl, sym, ap}
 use Rattle.std.proofs.Common.{◌∙◌, subst}
 use Rattle.std.proofs.lemmas.Bool.{false≢true}
 use mathlib.Core.List.{List, [], ◌++◌, append_assoc, append-nil}
 use Prim.Native.Nat.{ℕ, zero, suc, ◌*◌}
-use Rattle.loops.specs.Choice.{if◌then◌else◌}
 use Rattle.loops.specs.Refusal.{Outcome, gives, refuses}
 use Rattle.matrix.specs.Size.{max_n}
 use Rattle.loops.specs.laws.ChoiceLaws.{either, when_true, when_false}
@@ -16,7 +15,7 @@ use Rattle.text.specs.Page.{Page as Put, puts}
 use Rattle.lines.specs.Lines.{refusal_line}
 use Rattle.rules.specs.Answers.{is_question_or_notice}
 use Rattle.rules.specs.State.{After, after}
-use Rattle.rules.specs.promises.RunEnds.{most}
+use Rattle.rules.specs.Bounds.{most}
 use Rattle.job.specs.Reading.{configuration_of}
 use Rattle.listing.specs.Types.{Run, Turn, Job}
 use Rattle.listing.specs.Replies.{replied}

@@ -24,10 +24,10 @@ use Rattle.rules.specs.State.{After, after}
 use Rattle.rules.specs.Calls.{Configuration, direction, beginning}
 use Rattle.rules.specs.History.{Exchange}
 use Rattle.rules.specs.Known.{Arrived, StillAsTold, last_told_x}
-use Rattle.rules.specs.promises.EndMeans.{success_was_told}
-use Rattle.rules.specs.promises.RunEnds.{most}
+use Rattle.rules.proofs.promises.EndMeans.{success_was_told}
+use Rattle.rules.specs.Bounds.{most}
 use Rattle.job.specs.Reading.{ReadOutcome, configuration_of}
-use Rattle.job.specs.laws.ReadingLaws.{read_serves}
+use Rattle.job.proofs.Serving.{read_serves}
 use Rattle.listing.specs.Types.{Answer, Derivative, Jacobian, Start, Step, End, Refused, Run, Turn, Job}
 use Rattle.listing.specs.Printed.{lines_from, blank_work, blank_question, run_lines, reading, lines_for, printed}
 use Rattle.listing.specs.Telling.{Tells, last, Ran}

@@ -19,8 +19,9 @@ use Rattle.job.specs.declared.form.Form.{Form}
 use Rattle.job.specs.Packed.{value_of}
 use Rattle.job.specs.Reading.{FormOutcome, ReadOutcome, job_of}
 use Rattle.job.specs.JobFile.{JobFile}
-use Rattle.job.specs.laws.ReadingLaws.{refuses_nothing, values_long, read_serves}
-use Rattle.job.specs.promises.RoundTrip.{begun_once, state_long}
+use Rattle.job.specs.laws.ReadingLaws.{refuses_nothing, values_long}
+use Rattle.job.proofs.Serving.{read_serves}
+use Rattle.job.proofs.RoundTrip.{begun_once, state_long}
 use Rattle.job.specs.promises.Values.{valued, read_is_valued, IsJob, read_is_a_job}
 use Rattle.listing.specs.Types.{Job}
 use Rattle.listing.specs.Printed.{blank_work, blank_question, reading, printed}

@@ -3,7 +3,7 @@ use Rattle.std.specs.Prelude.{◌≤◌, length}
 use mathlib.Core.Path.{sym, ap}
 use lib.Seq.{length-take-le}
 use Rattle.rules.specs.declared.types.Progress.{Progress}
-use Rattle.rules.specs.laws.NeededLaws.{room_needed, beyond_kept}
+use Rattle.rules.proofs.laws.NeededLaws.{room_needed, beyond_kept}
 use Rattle.rules.specs.Begin.{kept, begin_run}
 use Rattle.bdf.proofs.beginning.begin_run.Goals as goal
 

@@ -2,7 +2,7 @@
 use native.Mathlib.Omega.{arith}
 use Rattle.loops.specs.laws.Turned.{turn_none, turn_more, turn_all}
 use Rattle.rules.specs.Begin.{least_turn, least}
-use Rattle.rules.specs.laws.CheckLaws.{reaches_each}
+use Rattle.rules.proofs.laws.CheckLaws.{reaches_each}
 use Rattle.bdf.proofs.beginning.least.Goals as goal
 
 pub loop-i-init : goal.loop-i-init

@@ -1,7 +1,7 @@
 -- `checks::entry`: a vector that reaches i + 1 components has an entry i. Assumes nothing.
 use Rattle.std.specs.Prelude.{◌+◌}
 use native.Mathlib.Omega.{arith}
-use Rattle.rules.specs.laws.CheckLaws.{vector_reaches}
+use Rattle.rules.proofs.laws.CheckLaws.{vector_reaches}
 use Rattle.bdf.proofs.checks.entry.Goals as goal
 
 -- LOST mul-result : tie.Need-overflow-mul-result

@@ -3,7 +3,7 @@
 use Rattle.std.specs.Prelude.{◌≡◌, ◌-◌}
 use mathlib.Core.Path.{sym, ◌∙◌}
 use native.Mathlib.Omega.{arith}
-use Rattle.rules.specs.laws.CheckLaws.{reaches_each, relative_found, absolute_found, none_negative_here, none_left}
+use Rattle.rules.proofs.laws.CheckLaws.{reaches_each, relative_found, absolute_found, none_negative_here, none_left}
 use Rattle.bdf.proofs.checks.negative.Goals as goal
 
 pub loop-i-init : goal.loop-i-init

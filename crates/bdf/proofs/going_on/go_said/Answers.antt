@@ -2,7 +2,7 @@
 use mathlib.Core.Path.{sym, ◌∙◌}
 use native.Mathlib.Omega.{arith}
 use Rattle.rules.specs.GoOn.{go_on_of}
-use Rattle.rules.specs.laws.GoOnLaws.{handed}
+use Rattle.rules.proofs.laws.GoOnLaws.{handed}
 use Rattle.bdf.proofs.CoreLaws.{handed_of, said_turn}
 use Rattle.bdf.proofs.going_on.go_said.Goals as goal
 

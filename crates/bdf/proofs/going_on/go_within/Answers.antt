@@ -3,7 +3,7 @@ use Rattle.std.specs.Prelude.{◌≤◌, length}
 use mathlib.Core.Path.{sym}
 use native.Mathlib.Omega.{arith}
 use lib.Seq.{length-take-le}
-use Rattle.rules.specs.laws.NeededLaws.{beyond_kept}
+use Rattle.rules.proofs.laws.NeededLaws.{beyond_kept}
 use Rattle.rules.specs.GoOn.{go_within}
 use Rattle.bdf.proofs.going_on.go_within.Goals as goal
 

@@ -4,7 +4,7 @@ use native.Mathlib.Omega.{arith}
 use borrow.Author.Tests.{lt-leb}
 use Rattle.loops.specs.laws.Turned.{turn_none, turn_more, turn_all}
 use Rattle.rules.specs.GoOn.{pivot_turn, pivot_outside}
-use Rattle.rules.specs.laws.DamageLaws.{pivot_found}
+use Rattle.rules.proofs.laws.DamageLaws.{pivot_found}
 use Rattle.bdf.proofs.going_on.pivot_outside.Goals as goal
 
 pub loop-i-init : goal.loop-i-init

@@ -9,7 +9,7 @@ use Rattle.loops.specs.Refusal.{Outcome}
 use Rattle.matrix.specs.Linear.{lin_solve_of, SolveOutcome}
 use Rattle.rules.specs.Places.{rhs, row}
 use Rattle.rules.specs.Moves.{loaded}
-use Rattle.rules.specs.laws.PartLaws.{loaded_whole, loaded_part}
+use Rattle.rules.proofs.laws.PartLaws.{loaded_whole, loaded_part}
 use Rattle.rules.specs.Newton.{solved}
 use Rattle.bdf.proofs.newton.solve_by.Goals as goal
 

@@ -2,7 +2,7 @@
 use mathlib.Core.Path.{◌∙◌}
 use Rattle.std.specs.Prelude.{[]}
 use Rattle.rules.specs.Reply.{failed_turn}
-use Rattle.rules.specs.laws.ReplyLaws.{stored_ready, halved_ready}
+use Rattle.rules.proofs.laws.ReplyLaws.{stored_ready, halved_ready}
 use Rattle.bdf.proofs.CoreLaws.{again_prepared, again_rest}
 use Rattle.bdf.proofs.reply.failed_turn.Goals as goal
 

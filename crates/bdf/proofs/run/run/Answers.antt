@@ -3,7 +3,7 @@
 use Rattle.std.specs.Prelude.{[]}
 use mathlib.Core.Path.{refl, sym, ◌∙◌}
 use native.Mathlib.Omega.{arith}
-use Rattle.rules.specs.laws.MainLoopLaws.{rest_after, fewer_after, ready_after}
+use Rattle.rules.proofs.laws.MainLoopLaws.{rest_after, fewer_after, ready_after}
 use Rattle.bdf.proofs.CoreLaws.{ready_of, tried_again, left_again, left_said}
 use Rattle.bdf.proofs.run.run.Goals as goal
 

@@ -1,6 +1,6 @@
 use Rattle.std.specs.Prelude.{◌≡◌, ◌≤◌, length}
 use Rattle.matrix.specs.Size.{max_n}
-use Rattle.rules.specs.laws.MainLoopLaws.{attempts_in}
+use Rattle.rules.proofs.laws.MainLoopLaws.{attempts_in}
 use Rattle.bdf.specs.Core.{tried, left_over, Prepared}
 use Rattle.bdf.proofs.run.run.Given as goal
 

@@ -3,7 +3,7 @@ use mathlib.Core.Path.{ap}
 use Rattle.std.specs.Prelude.{List}
 use lib.Ieee.{Float}
 use Rattle.loops.specs.Cell.{at}
-use Rattle.rules.specs.laws.TableBits.{gamma_bits}
+use Rattle.rules.proofs.laws.TableBits.{gamma_bits}
 use Rattle.bdf.proofs.tables.gamma.Goals as goal
 
 pub returns : goal.returns

@@ -1,7 +1,6 @@
 -- `form::accepted` meets its contract: the code's tests are those of the definition, in its order. Assumes nothing.
 use mathlib.Core.Path.{◌∙◌}
 use native.Mathlib.Omega.{arith}
-use borrow.Author.Rules.{rules}
 use borrow.Author.Tests.{eq-eqb, ne_eqb}
 use Rattle.job.specs.Reading.{accepted_of}
 use Rattle.job.proofs.form.accepted.Goals as goal

@@ -1,5 +1,4 @@
 -- `form::form_of` meets its contract, field by field. Assumes nothing.
-use borrow.Author.Rules.{rules}
 use Rattle.job.specs.Reading.{form_of}
 use Rattle.job.proofs.form.form_of.Goals as goal
 

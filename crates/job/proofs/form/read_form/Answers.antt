@@ -5,7 +5,6 @@ use mathlib.Core.List.{List, ◌++◌}
 use Prim.Native.Nat.{ℕ, ◌+◌, ◌*◌}
 use native.Mathlib.Omega.{arith}
 use lib.ListN.{drop}
-use borrow.Author.Rules.{rules}
 use Rattle.loops.specs.Refusal.{gives, refuses}
 use Rattle.job.specs.declared.form.Form.{Form}
 use Rattle.job.specs.declared.form.FormReading.{FormReading}
@@ -29,24 +28,22 @@ module _ (s : List ℕ) {r : FormReading} (is : form_reading_of r ≡ form_read 
 
 pub words-requires : goal.words-requires
 words-requires c =
-    let h = served _ c.before.before.before.before.form_read_lem.ensures.ensures _ c.in-Read.is in
+    let h = served _ c.form_read.ensures _ c.in-Read.is in
     (omega (arith, h.few, h.long), omega (arith, h.few))
 
--- LOST add_words : tie.Need-overflow-add-words
--- LOST add_words c = omega (arith, (served _ c.before.before.before.before.before.form_read_lem.ensures _ c.before.before.before.f.given.1).few)
--- LOST 
+pub overflow_add-n : goal.overflow_add-n
+overflow_add-n c = omega (arith, (served _ c.form_read.ensures _ c.in-Read.is).few)
 
--- LOST mul_words : tie.Need-overflow-mul-words
--- LOST mul_words c = omega (arith, square _ c.before.before.before.before.before.form_read_lem.ensures _ c.before.before.before.f.given.1)
--- LOST 
+pub overflow_mul-n : goal.overflow_mul-n
+overflow_mul-n c = omega (arith, square _ c.form_read.ensures _ c.in-Read.is)
 
 pub words-requires-in-Read : goal.words-requires-in-Read
 words-requires-in-Read c =
-    let h = served _ c.before.before.before.before.before.before.form_read_lem.ensures.ensures _ c.in-Read.is in
-    (omega (arith, h.long), omega (arith, square _ c.before.before.before.before.before.before.form_read_lem.ensures.ensures _ c.in-Read.is))
+    let h = served _ c.form_read.ensures _ c.in-Read.is in
+    (omega (arith, h.long), omega (arith, square _ c.form_read.ensures _ c.in-Read.is))
 
 pub returns-in-Read : goal.returns-in-Read
-returns-in-Read c = a_form _ c.before.before.before.before.before.before.before.form_read_lem.ensures.ensures _ _ _ c.in-Read.is c.words.ensures c.words-in-Read.ensures
+returns-in-Read c = a_form _ c.form_read.ensures _ _ _ c.in-Read.is c.words.ensures c.words-in-Read.ensures
 
 pub returns-in-Refused : goal.returns-in-Refused
-returns-in-Refused c = a_refusal _ c.before.before.before.form_read_lem.ensures.ensures _ _ _ c.in-Refused.is
+returns-in-Refused c = a_refusal _ c.form_read.ensures _ _ _ c.in-Refused.is

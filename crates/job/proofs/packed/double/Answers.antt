@@ -1,5 +1,4 @@
 -- `packed::double` meets its contract: the double of the word. Assumes nothing.
-use borrow.Author.Rules.{rules}
 use Rattle.job.proofs.packed.double.Goals as goal
 
 pub returns : goal.returns

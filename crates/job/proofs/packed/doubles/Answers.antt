@@ -2,12 +2,12 @@
 -- Assumes nothing.
 use mathlib.Core.Path.{◌≡◌, refl}
 use mathlib.Core.List.{List, [], ◌∷◌, ◌++◌}
-use Prim.Native.Nat.{ℕ, suc, ◌+◌, ◌-◌, ◌≤◌}
+use Prim.Native.Nat.{ℕ, suc, ◌+◌}
 use native.Mathlib.Omega.{arith}
 use lib.Ieee.{Float}
 use Rattle.job.specs.Packed.{word_of, words_of, double_of, doubles_of}
 use Rattle.job.specs.laws.ReadingLaws.{values_append}
-use Rattle.job.proofs.Loading.{Loaded, none_loaded, one_more, all_loaded}
+use Rattle.job.proofs.Loading.{none_loaded, one_more, all_loaded}
 use Rattle.job.proofs.packed.doubles.Goals as goal
 
 none_yet : (s : List ℕ) (i : ℕ) → doubles_of s i 0 ≡ []
@@ -32,10 +32,6 @@ loop-k-preserved c =
 
 pub returns : goal.returns
 returns c = all_loaded _ _ _ _ _ (omega arith) c.loop-k.invariant.1
-
--- LOST mul-to : tie.Need-overflow-mul-to invariant-loop decreases-loop
--- LOST mul-to c = omega (arith, c.before.before.loop.invariant.1.size)
--- LOST 
 
 pub shape_of-to : goal.shape_of-to
 shape_of-to c = omega (arith, c.loop-k.invariant.1.size)

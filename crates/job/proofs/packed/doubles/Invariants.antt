@@ -1,11 +1,6 @@
-use mathlib.Core.Path.{◌≡◌, refl}
-use mathlib.Core.List.{List, [], ◌∷◌, ◌++◌}
-use Prim.Native.Nat.{ℕ, suc, ◌+◌, ◌-◌, ◌≤◌}
-use native.Mathlib.Omega.{arith}
-use lib.Ieee.{Float}
-use Rattle.job.specs.Packed.{word_of, words_of, double_of, doubles_of}
-use Rattle.job.specs.laws.ReadingLaws.{values_append}
-use Rattle.job.proofs.Loading.{Loaded, none_loaded, one_more, all_loaded}
+use Prim.Native.Nat.{◌-◌, ◌≤◌}
+use Rattle.job.specs.Packed.{doubles_of}
+use Rattle.job.proofs.Loading.{Loaded}
 use Rattle.job.proofs.packed.doubles.Given as goal
 
 abbrev pub invariant-loop-k : goal.invariant-loop-k

@@ -1,13 +1,12 @@
 -- `packed::head_bits` meets its contract. The invariant: the number so far is that of the bytes passed, and below 256 to the
 -- power of how many they are, so that the next step does not wrap. Assumes nothing.
 use mathlib.Core.Path.{◌≡◌}
-use Prim.Native.Nat.{ℕ, ◌+◌, ◌<◌, ◌≤◌, ◌^◌, ◌-◌}
+use Prim.Native.Nat.{ℕ, ◌+◌, ◌<◌, ◌≤◌, ◌^◌}
 use native.Mathlib.Nat.{pow-suc, pow-le-pow_right, lt_of_lt_of_le}
 use native.Mathlib.Numerals.{add-one}
 use native.Mathlib.Omega.{arith}
 use lib.Dec.{lit<}
-use Rattle.loops.specs.laws.Turned.{Turned, turn_none, turn_more, turn_all}
-use Rattle.text.specs.Words.{word_turn}
+use Rattle.loops.specs.laws.Turned.{turn_none, turn_more, turn_all}
 use Rattle.job.specs.Packed.{head_length, head_bits}
 use Rattle.job.proofs.packed.head_bits.Goals as goal
 

@@ -1,12 +1,7 @@
-use mathlib.Core.Path.{◌≡◌}
-use Prim.Native.Nat.{ℕ, ◌+◌, ◌<◌, ◌≤◌, ◌^◌, ◌-◌}
-use native.Mathlib.Nat.{pow-suc, pow-le-pow_right, lt_of_lt_of_le}
-use native.Mathlib.Numerals.{add-one}
-use native.Mathlib.Omega.{arith}
-use lib.Dec.{lit<}
-use Rattle.loops.specs.laws.Turned.{Turned, turn_none, turn_more, turn_all}
+use Prim.Native.Nat.{◌<◌, ◌^◌, ◌-◌}
+use Rattle.loops.specs.laws.Turned.{Turned}
 use Rattle.text.specs.Words.{word_turn}
-use Rattle.job.specs.Packed.{head_length, head_bits}
+use Rattle.job.specs.Packed.{head_length}
 use Rattle.job.proofs.packed.head_bits.Given as goal
 
 abbrev pub invariant-loop-i : goal.invariant-loop-i

@@ -1,7 +1,6 @@
 -- `packed::length_for` meets its contract: n is at most max_n, so nothing wraps. Assumes nothing.
 use native.Mathlib.Nat.{mul-le-mul}
 use native.Mathlib.Omega.{arith}
-use borrow.Author.Rules.{rules}
 use Rattle.job.proofs.packed.length_for.Goals as goal
 
 pub overflow_mul-result : goal.overflow_mul-result

@@ -1,9 +1,6 @@
-use mathlib.Core.Path.{◌≡◌, refl}
-use mathlib.Core.List.{List, [], ◌∷◌, ◌++◌}
-use Prim.Native.Nat.{ℕ, suc, ◌+◌, ◌-◌, ◌≤◌}
-use native.Mathlib.Omega.{arith}
-use Rattle.job.specs.Packed.{word_of, words_of}
-use Rattle.job.proofs.Loading.{Loaded, none_loaded, one_more, all_loaded}
+use Prim.Native.Nat.{◌-◌, ◌≤◌}
+use Rattle.job.specs.Packed.{words_of}
+use Rattle.job.proofs.Loading.{Loaded}
 use Rattle.job.proofs.packed.words.Given as goal
 
 abbrev pub invariant-loop-k : goal.invariant-loop-k

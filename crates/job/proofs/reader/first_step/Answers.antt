@@ -1,6 +1,5 @@
 -- `reader::first_step` meets its contract: the two ways of the code are the two of the definition. Assumes nothing.
 use mathlib.Core.Path.{sym}
-use borrow.Author.Rules.{rules}
 use Rattle.loops.specs.laws.ChoiceLaws.{when_true, when_false}
 use Rattle.job.specs.Reading.{first_step_of}
 use Rattle.job.proofs.reader.first_step.Goals as goal

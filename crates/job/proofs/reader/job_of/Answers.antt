@@ -1,5 +1,4 @@
 -- `reader::job_of` meets its contract, field by field. Assumes nothing.
-use borrow.Author.Rules.{rules}
 use Rattle.job.specs.Reading.{job_of}
 use Rattle.job.proofs.reader.job_of.Goals as goal
 

@@ -6,7 +6,6 @@ use Prim.Native.Nat.{ℕ, ◌+◌, ◌*◌}
 use native.Mathlib.Omega.{arith}
 use lib.ListN.{drop}
 use lib.Ieee.{Float}
-use borrow.Author.Rules.{rules}
 use Rattle.loops.specs.Refusal.{gives, refuses}
 use Rattle.job.specs.declared.form.Form.{Form}
 use Rattle.job.specs.declared.form.FormReading.{FormReading}
@@ -31,24 +30,22 @@ module _ (s : List ℕ) {r : FormReading} (is : form_reading_of r ≡ form_read 
 
 pub doubles-requires : goal.doubles-requires
 doubles-requires c =
-    let h = served _ c.before.before.before.before.form_read_lem.ensures.ensures _ c.in-Read.is in
+    let h = served _ c.form_read.ensures _ c.in-Read.is in
     (omega (arith, h.few, h.long), omega (arith, h.few))
 
--- LOST add-doubles : tie.Need-overflow-add-doubles
--- LOST add-doubles c = omega (arith, (served _ c.before.before.before.before.before.form_read_lem.ensures _ c.before.before.before.f.given.1).few)
--- LOST 
+pub overflow_add-n : goal.overflow_add-n
+overflow_add-n c = omega (arith, (served _ c.form_read.ensures _ c.in-Read.is).few)
 
--- LOST mul-doubles : tie.Need-overflow-mul-doubles
--- LOST mul-doubles c = omega (arith, square _ c.before.before.before.before.before.form_read_lem.ensures _ c.before.before.before.f.given.1)
--- LOST 
+pub overflow_mul-n : goal.overflow_mul-n
+overflow_mul-n c = omega (arith, square _ c.form_read.ensures _ c.in-Read.is)
 
 pub doubles-requires-in-Read : goal.doubles-requires-in-Read
 doubles-requires-in-Read c =
-    let h = served _ c.before.before.before.before.before.before.form_read_lem.ensures.ensures _ c.in-Read.is in
-    (omega (arith, h.long), omega (arith, square _ c.before.before.before.before.before.before.form_read_lem.ensures.ensures _ c.in-Read.is))
+    let h = served _ c.form_read.ensures _ c.in-Read.is in
+    (omega (arith, h.long), omega (arith, square _ c.form_read.ensures _ c.in-Read.is))
 
 pub returns-in-Read : goal.returns-in-Read
-returns-in-Read c = a_job _ c.before.before.before.before.before.before.before.before.form_read_lem.ensures.ensures _ _ _ c.in-Read.is c.doubles.ensures c.doubles-in-Read.ensures c.Job-of.ensures.ensures
+returns-in-Read c = a_job _ c.form_read.ensures _ _ _ c.in-Read.is c.doubles.ensures c.doubles-in-Read.ensures c.job_of.ensures
 
 pub returns-in-Refused : goal.returns-in-Refused
-returns-in-Refused c = a_refusal _ c.before.before.before.form_read_lem.ensures.ensures _ _ _ c.in-Refused.is
+returns-in-Refused c = a_refusal _ c.form_read.ensures _ _ _ c.in-Refused.is

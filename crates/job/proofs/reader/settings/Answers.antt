@@ -1,5 +1,4 @@
 -- `reader::settings` meets its contract. Assumes nothing.
-use borrow.Author.Rules.{rules}
 use Rattle.job.proofs.reader.settings.Goals as goal
 
 pub returns : goal.returns

@@ -1,14 +1,13 @@
 -- `right::right_side` meets its contract: where the sizes agree the rows are computed, and else nothing is written.
 -- Assumes nothing.
 use mathlib.Core.Path.{◌≡◌, sym, ◌∙◌}
-use mathlib.Core.Bool.{Bool, true, false, not}
+use mathlib.Core.Bool.{Bool, true, false}
 use mathlib.Core.List.{List}
 use Prim.Native.Nat.{ℕ, ◌*◌, ◌≤◌}
 use lib.Dec.{leb, eqb}
 use lib.ListN.{length}
 use lib.Ieee.{Float}
-use borrow.Author.Rules.{rules}
-use borrow.Author.Tests.{not-true, not-false, leb-true, eqb-true}
+use borrow.Author.Tests.{leb-true, eqb-true}
 use Rattle.loops.specs.laws.ChoiceLaws.{when_true, when_false, and_first, and_second}
 use Rattle.job.specs.Types.{max_n}
 use Rattle.job.specs.Right.{sized_of, right_of, right_side_of}
@@ -23,19 +22,19 @@ sized_means n cells places t =
     )
 
 module _ (a y dy : List Float) {r : Bool} (e : r ≡ sized_of (length y) (length a) (length dy)) where
-  wrong_sizes : not r ≡ true → ◌≡◌ {A = Bool × List Float} (false, dy) (right_side_of a y dy)
+  wrong_sizes : r ≡ false → ◌≡◌ {A = Bool × List Float} (false, dy) (right_side_of a y dy)
   unfolding right_side_of
-  wrong_sizes t = sym (when_false _ _ (sym e ∙ not-true r t))
+  wrong_sizes t = sym (when_false _ _ (sym e ∙ t))
 
-  right_sizes : {d : List Float} → not r ≡ false → d ≡ right_of a y dy → ◌≡◌ {A = Bool × List Float} (true, d) (right_side_of a y dy)
+  right_sizes : {d : List Float} → r ≡ true → d ≡ right_of a y dy → ◌≡◌ {A = Bool × List Float} (true, d) (right_side_of a y dy)
   unfolding right_side_of
-  right_sizes t f = rw f (sym (when_true _ _ (sym e ∙ not-false r t)))
+  right_sizes t f = rw f (sym (when_true _ _ (sym e ∙ t)))
 
 pub returns-then-not-sized : goal.returns-then-not-sized
 returns-then-not-sized c = wrong_sizes _ _ _ c.sized.ensures c.if-not-sized.true
 
 pub rows-requires : goal.rows-requires
-rows-requires c = sized_means _ _ _ (sym c.sized.ensures ∙ not-false _ c.if-not-sized.false)
+rows-requires c = sized_means _ _ _ (sym c.sized.ensures ∙ c.if-not-sized.false)
 
 pub returns : goal.returns
 returns c = right_sizes _ _ _ c.sized.ensures c.if-not-sized.false c.rows.ensures

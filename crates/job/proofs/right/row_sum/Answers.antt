@@ -1,13 +1,11 @@
 -- `right::row_sum` meets its contract: one column a turn. A cell of row i lies among the n² cells, of which there are few
 -- enough that no index wraps. Assumes nothing.
-use mathlib.Core.Path.{◌≡◌, refl}
-use Prim.Native.Nat.{ℕ, ◌*◌, ◌+◌, ◌-◌, ◌≤◌, ◌<◌}
+use mathlib.Core.Path.{refl}
+use Prim.Native.Nat.{ℕ, ◌*◌, ◌+◌, ◌≤◌, ◌<◌}
 use native.Mathlib.Nat.{mul-le-mul}
 use native.Mathlib.Omega.{arith}
-use lib.ListN.{length}
-use lib.Ieee.{binary64, of_bits}
 use Rattle.loops.specs.laws.RowLaws.{inside}
-use Rattle.loops.specs.laws.Turned.{Turned, turn_none, turn_more, turn_all}
+use Rattle.loops.specs.laws.Turned.{turn_none, turn_more, turn_all}
 use Rattle.job.specs.Types.{max_n}
 use Rattle.job.specs.Right.{sum_turn, row_sum}
 use Rattle.job.proofs.right.row_sum.Goals as goal
@@ -27,10 +25,6 @@ overflow_mul-sum c = omega (arith, small c.requires.0 c.requires.1.0 c.loop-c-te
 
 pub overflow_add-sum : goal.overflow_add-sum
 overflow_add-sum c = omega (arith, small c.requires.0 c.requires.1.0 c.loop-c-test.true)
-
--- LOST mul-sum-2 : tie.Need-overflow-mul-sum-2 invariant-loop decreases-loop
--- LOST mul-sum-2 c = omega (arith, small c.before.before.requires.0 c.before.before.requires.1.0 c.loop-test.true)
--- LOST 
 
 pub bounds-a-i : goal.bounds-a-i
 bounds-a-i c = omega (arith, small c.requires.0 c.requires.1.0 c.loop-c-test.true)

@@ -1,13 +1,9 @@
-use mathlib.Core.Path.{◌≡◌, refl}
-use Prim.Native.Nat.{ℕ, ◌*◌, ◌+◌, ◌-◌, ◌≤◌, ◌<◌}
-use native.Mathlib.Nat.{mul-le-mul}
-use native.Mathlib.Omega.{arith}
+use mathlib.Core.Path.{◌≡◌}
+use Prim.Native.Nat.{◌-◌}
 use lib.ListN.{length}
 use lib.Ieee.{binary64, of_bits}
-use Rattle.loops.specs.laws.RowLaws.{inside}
-use Rattle.loops.specs.laws.Turned.{Turned, turn_none, turn_more, turn_all}
-use Rattle.job.specs.Types.{max_n}
-use Rattle.job.specs.Right.{sum_turn, row_sum}
+use Rattle.loops.specs.laws.Turned.{Turned}
+use Rattle.job.specs.Right.{sum_turn}
 use Rattle.job.proofs.right.row_sum.Given as goal
 
 abbrev pub invariant-loop-c : goal.invariant-loop-c

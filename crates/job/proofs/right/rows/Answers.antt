@@ -1,9 +1,8 @@
 -- `right::rows` meets its contract: one row a turn. Assumes nothing.
-use mathlib.Core.Path.{◌≡◌, refl}
-use Prim.Native.Nat.{◌-◌}
+use mathlib.Core.Path.{refl}
 use native.Mathlib.Omega.{arith}
-use lib.ListN.{length, length-set}
-use Rattle.loops.specs.laws.Turned.{Turned, turn_none, turn_more, turn_all}
+use lib.ListN.{length-set}
+use Rattle.loops.specs.laws.Turned.{turn_none, turn_more, turn_all}
 use Rattle.job.specs.Right.{right_turn, right_of}
 use Rattle.job.proofs.right.rows.Goals as goal
 

@@ -1,9 +1,8 @@
-use mathlib.Core.Path.{◌≡◌, refl}
+use mathlib.Core.Path.{◌≡◌}
 use Prim.Native.Nat.{◌-◌}
-use native.Mathlib.Omega.{arith}
-use lib.ListN.{length, length-set}
-use Rattle.loops.specs.laws.Turned.{Turned, turn_none, turn_more, turn_all}
-use Rattle.job.specs.Right.{right_turn, right_of}
+use lib.ListN.{length}
+use Rattle.loops.specs.laws.Turned.{Turned}
+use Rattle.job.specs.Right.{right_turn}
 use Rattle.job.proofs.right.rows.Given as goal
 
 abbrev pub invariant-loop-i : goal.invariant-loop-i

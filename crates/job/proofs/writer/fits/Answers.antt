@@ -1,6 +1,4 @@
 -- `writer::fits` meets its contract: the code's tests are those of the definition, in its order. Assumes nothing.
-use native.Mathlib.Nat.{mul-le-mul}
-use native.Mathlib.Omega.{arith}
 use borrow.Author.Tests.{eq-eqb, ne_eqb, lt-ltb, le-ltb}
 use Rattle.job.specs.Writing.{fits_of}
 use Rattle.job.proofs.writer.fits.Goals as goal
@@ -8,10 +6,6 @@ use Rattle.job.proofs.writer.fits.Goals as goal
 pub returns-then-places-n : goal.returns-then-places-n
 unfolding fits_of
 returns-then-places-n c = rw (ne_eqb _ _ c.if-places-n.true)
-
--- LOST mul-if2 : tie.Need-overflow-mul-if2
--- LOST mul-if2 c = omega (arith, mul-le-mul c.before.requires c.before.requires)
--- LOST 
 
 pub returns-then-cells-n : goal.returns-then-cells-n
 unfolding fits_of

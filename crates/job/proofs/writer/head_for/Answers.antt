@@ -1,6 +1,5 @@
 -- `writer::head_for` meets its contract: the fields are narrow, so nothing wraps. Assumes nothing.
 use native.Mathlib.Omega.{arith}
-use borrow.Author.Rules.{rules}
 use Rattle.job.specs.laws.HeadLaws.{bit_small}
 use Rattle.job.proofs.writer.head_for.Goals as goal
 

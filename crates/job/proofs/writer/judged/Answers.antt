@@ -1,7 +1,6 @@
 -- `writer::judged` meets its contract: the refusals are the definition's, in its order. Assumes nothing.
 use mathlib.Core.Path.{sym, ◌∙◌}
-use borrow.Author.Rules.{rules}
-use borrow.Author.Tests.{lt-ltb, le-ltb, not-true, not-false}
+use borrow.Author.Tests.{lt-ltb, le-ltb}
 use Rattle.loops.specs.laws.ChoiceLaws.{when_true, when_false}
 use Rattle.job.specs.Writing.{judged_of}
 use Rattle.job.proofs.writer.judged.Goals as goal
@@ -12,8 +11,8 @@ returns-then-f-gt-MAX_N c = sym (when_true _ _ (lt-ltb _ _ c.if-f-gt-MAX_N.true)
 
 pub returns-then-not-fits : goal.returns-then-not-fits
 unfolding judged_of
-returns-then-not-fits c = sym (when_false _ _ (le-ltb _ _ c.if-f-gt-MAX_N.false) ∙ when_false _ _ (sym c.before.fits2.ensures.ensures ∙ not-true _ c.if-not-fits.true))
+returns-then-not-fits c = sym (when_false _ _ (le-ltb _ _ c.if-f-gt-MAX_N.false) ∙ when_false _ _ (sym c.fits.ensures ∙ c.if-not-fits.true))
 
 pub returns : goal.returns
 unfolding judged_of
-returns c = c.begun.ensures ∙ rw c.length_for.ensures (sym (when_false _ _ (le-ltb _ _ c.if-f-gt-MAX_N.false) ∙ when_true _ _ (sym c.before.before.before.fits2.ensures.ensures ∙ not-false _ c.if-not-fits.false)))
+returns c = c.begun.ensures ∙ rw c.length_for.ensures (sym (when_false _ _ (le-ltb _ _ c.if-f-gt-MAX_N.false) ∙ when_true _ _ (sym c.fits.ensures ∙ c.if-not-fits.false)))

@@ -5,7 +5,6 @@ use mathlib.Core.List.{List, ◌++◌}
 use Prim.Native.Nat.{ℕ, ◌+◌, ◌≤◌}
 use native.Mathlib.Omega.{arith}
 use lib.ListN.{length, drop}
-use borrow.Author.Rules.{rules}
 use Rattle.text.specs.declared.page.Place.{Place}
 use Rattle.text.specs.declared.page.Place.TheVariants.{At}
 use Rattle.text.specs.Page.{Page, puts}

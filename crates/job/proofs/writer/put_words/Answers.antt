@@ -1,7 +1,7 @@
 -- `writer::put_words` meets its contract. The invariant: the words passed are laid over the bytes from `at` on. Assumes nothing.
 use mathlib.Core.Path.{◌≡◌, refl, ap, ◌∙◌}
 use mathlib.Core.List.{List}
-use Prim.Native.Nat.{ℕ, ◌≤◌, ◌<◌, ◌+◌, ◌*◌, ◌-◌}
+use Prim.Native.Nat.{ℕ, ◌≤◌, ◌<◌, ◌+◌, ◌*◌}
 use native.Mathlib.Omega.{arith}
 use lib.ListN.{length, take, get_or}
 use lib.Seq.{take_all}
@@ -13,12 +13,8 @@ use Rattle.text.specs.laws.PageLaws.{laid, puts_whole}
 use Rattle.text.specs.laws.WordLaws.{length_bytes}
 use Rattle.job.specs.Writing.{joined}
 use Rattle.job.specs.laws.LaidLaws.{laid_word, laid_none, length_laid_words}
+use Rattle.job.proofs.writer.put_words.Invariants.{Laid}
 use Rattle.job.proofs.writer.put_words.Goals as goal
-
--- the words passed are laid; the page stays as long as it was
-record Laid (ws : List ℕ) (at i : ℕ) (out₀ out : List ℕ) : Type 0 where
-  pub size : length out ≡ length out₀
-  pub passed : out ≡ laid (joined (take i ws)) at out₀
 
 module _ (ws : List ℕ) (at : ℕ) (out₀ : List ℕ) where
   none : Laid ws at 0 out₀ out₀
