@@ -116,6 +116,10 @@ def main():
         rewrite(path, lambda text: page(text, antt, camel))
 
 
+# A name that a `ghost use` brings under another one.
+CAMEL = re.compile(r"(?<![\w.])[a-z][a-z0-9]*[A-Z]\w*")
+
+
 def source(text, antt):
     """Clauses, imports and comments; code and strings not at all."""
     out, depth = [], 0
@@ -128,7 +132,7 @@ def source(text, antt):
                 depth = line.count("{") - line.count("}")
             else:
                 depth += line.count("{") - line.count("}")
-            out.append(choice(antt(line)))
+            out.append(choice(CAMEL.sub(lambda m: snake(m.group(0)), antt(line))))
         else:
             head, mark, comment = line.partition(" // ")
             out.append(head + mark + antt(comment))

@@ -10,7 +10,6 @@ use Rattle.render.proofs.placing.place.Goals as goal
 pub returns-then-n-gt-MAX_N : goal.returns-then-n-gt-MAX_N
 returns-then-n-gt-MAX_N c = ?
 
-
 -- src/placing.rt:144:9
 pub returns-then-cont-n : goal.returns-then-cont-n
 returns-then-cont-n c = ?
