@@ -1,7 +1,7 @@
 -- The first k past x by arithmetic, as the code computes it: to x * 48000, rounded, 2 ^ 52 is added, whose sums are whole numbers, and taken off
 -- again. That is the whole number below the exact product or the next one, and the first past x is at most 2 above it (`near`).
 use Rattle.std.specs.Prelude.{◌≡◌, refl, Bool, true, false, ℕ, ◌+◌, ◌-◌, ◌*◌, ◌/◌, ◌%◌, ◌^◌, ◌≤◌, ◌<◌, ℤ, pos, T, ltb, leb, Float}
-use Rattle.std.proofs.Common.{sym, ap, ◌∙◌, subst, le_trans, le_of_eq, le_of_lt, lt_of_le_of_lt, lt_of_not-le, not-le_of_lt, mul_assoc, mul_right_comm, mul-le-mul_right, le_of_mul-le-mul_right, mul-div_cancel, mul-pos, zero-add, add-mul, arith, lt-ltb, le-ltb, ltb-false, lit≤, lit<, le-leb, pow-add, pow_pos, pow_mono}
+use Rattle.std.proofs.Common.{sym, ap, ◌∙◌, subst, le_trans, le_of_eq, lt_of_le_of_lt, lt_of_not-le, not-le_of_lt, mul_assoc, mul_right_comm, mul-le-mul_right, le_of_mul-le-mul_right, mul-div_cancel, mul-pos, zero-add, zero-mul, add-mul, arith, lt-ltb, lit≤, lit<, le-leb, pow-add, pow_pos, pow_mono}
 use Rattle.std.proofs.Math.Nat.{min-eq_left, eq_of_mul-eq-mul_right, mul-mod_left}
 use Rattle.std.proofs.lemmas.Bool.{false≢true}
 use Rattle.std.specs.Float.Ieee
@@ -12,7 +12,6 @@ use Rattle.std.specs.Float.Ieee.Fits.{down_pos}
 use Rattle.std.specs.Float.Ieee.Order.{drop, kept}
 use Rattle.loops.specs.Arithmetic.{◌⊕◌, ◌⊗◌, +0}
 use Rattle.roots.specs.Roots.{units_of}
-use Rattle.roots.specs.laws.Patterns.{units_zero}
 use Rattle.roots.specs.laws.Units.{SignClear, units_exact}
 use Rattle.floats.specs.Units.{Finite, grid_of, Counts, Apart, Rounded, over, under}
 use Rattle.floats.specs.laws.Rounding.{grid_mono, grid_same}
@@ -20,12 +19,12 @@ use Rattle.floats.specs.laws.Products.{counts_within, within_clear, counts_units
 use Rattle.floats.specs.laws.Sums.{add_rounded, clear_over}
 use Rattle.floats.specs.laws.Whole.{whole_grid, whole_bound}
 use Rattle.floats.specs.laws.Equal.{not_lt}
-use Rattle.render.specs.Times.{rate, past, first_past}
+use Rattle.render.specs.Times.{rate, first_past}
 use Rattle.render.specs.laws.Clock.{Good}
 use Rattle.render.specs.laws.TimeLaws.{ticks, past_ticks, good_finite, rate_is, rate_finite, rate_some}
 use Rattle.render.specs.laws.StrictLaws.{time_near}
 use Rattle.render.specs.laws.PastLaws.{before_past}
-use Rattle.render.specs.laws.GuessLaw.{base, base_most, product, product_under, product_over, base_small, at_most, product_counts, past_under, past_over, set_past, zero_is, zero_finite, nearby_past}
+use Rattle.render.specs.laws.GuessLaw.{base, base_most, product, product_under, product_over, base_small, at_most, product_counts, past_under, past_over, set_past, zero_is, zero_finite}
 
 -- 2 ^ 52
 abbrev pub whole : Float
@@ -175,7 +174,7 @@ clear_near x g c =
 
 -- -0 counts as 0
 grid_none : (c : ℕ) → 0 < c → grid_of 0 c ≡ 0
-grid_none c h = grid_same 0 c 0 (2 ^ 1074) h (pow_pos 1074) refl ∙ whole_grid 0 (lit≤ tt)
+grid_none c h = grid_same 0 c 0 (2 ^ 1074) h (pow_pos 1074) (sym (zero-mul c)) ∙ whole_grid 0 (lit≤ tt)
 
 no_ticks : ticks 0 ≡ 0
 unfolding ticks
@@ -192,7 +191,7 @@ module _ (m : ℕ) (e : ℤ) (g : Good (fin true m e)) (none : units_of (fin tru
   set_product =
       let w = 2 ^ 1074 in
       let k = mul_counts (fin true m e) (fin false 375 (pos 7)) g.fitting rate_finite in
-      rw rate_is (rw (none, grid_none (w * w) (mul-pos (pow_pos 1074) (pow_pos 1074))) at k)
+      rw rate_is (rw (none, zero-mul (units_of (fin false 375 (pos 7))), grid_none (w * w) (mul-pos (pow_pos 1074) (pow_pos 1074))) at k)
 
   set_past_some : 0 < first_past (fin true m e)
   set_past_some =
