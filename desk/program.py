@@ -20,7 +20,7 @@ from desk.packed import Wrong, value
 HOME = Path(__file__).resolve().parent.parent
 NATIVE = platform.machine() in ("x86_64", "AMD64")  # rt builds for it; elsewhere the same module is compiled for the processor at hand
 # run_job is the desk's; replay is what a caller's own program talks to (docs/OWN-RIGHT-SIDES.md), and is built with it.
-BUILT = {name: HOME / "target" / (f"bin/{name}" if NATIVE else f"native-{name}") for name in ("run_job", "replay")}
+BUILT = {name: HOME / (f"crates/{name}/out/{name}" if NATIVE else f"target/native-{name}") for name in ("run_job", "replay")}
 PATIENCE = 1.0  # seconds before the first word of progress
 
 
@@ -49,7 +49,14 @@ def current():
     if not all(os.access(path, os.X_OK) for path in BUILT.values()):
         return False
     age = min(path.stat().st_mtime for path in BUILT.values())
-    return all(path.stat().st_mtime <= age for path in (HOME / "crates").rglob("*") if path.is_file())
+    return all(path.stat().st_mtime <= age for path in sources())
+
+
+def sources():
+    """Every file of the crates but what was made of them."""
+    for folder, below, names in os.walk(HOME / "crates"):
+        below[:] = [name for name in below if name != "out"]
+        yield from (Path(folder, name) for name in names)
 
 
 def build():
@@ -60,7 +67,7 @@ def build():
     try:
         log.parent.mkdir(exist_ok=True)
         with open(log, "wb") as file:
-            done = all(subprocess.run(step, cwd=HOME, stdout=file, stderr=subprocess.STDOUT).returncode == 0 for step in steps())
+            done = all(made(step, folder, file) for step, folder in steps())
     except OSError as fault:
         raise Wrong(f"the programs could not be built: {fault.filename}: {fault.strerror}")
     if not done:
@@ -69,11 +76,17 @@ def build():
         os.utime(path, (begun, begun))  # a file that was changed meanwhile is newer
 
 
+def made(step, folder, file):
+    return subprocess.run(step, cwd=folder, stdin=subprocess.DEVNULL, stdout=file, stderr=subprocess.STDOUT).returncode == 0
+
+
 def steps():
-    """The commands that prove and build, one after another."""
-    yield ["rt", "check", *BUILT]
+    """The commands that prove and build, one after another, each with the folder that it is given in. `rt run` runs what it built, too: on
+    nothing, to which either program has an answer."""
+    for name in BUILT:
+        yield ["rt", "run"], HOME / "crates" / name
     for name, path in BUILT.items() if not NATIVE else ():
-        yield [str(HOME / "bench" / "native"), "program", name, str(path)]
+        yield [str(HOME / "bench" / "native"), "program", name, str(path)], HOME
 
 
 def run(words, job, doing, printed=None):

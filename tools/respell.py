@@ -107,13 +107,17 @@ def main():
     special = {path: replacer({**table, **here}) for path, here in SPECIAL_IN.items()}
     camel = replacer({o: n for o, n in table.items() if "-" not in o})
     for path in ours():
-        rewrite(path, lambda text: same_alias(special.get(path, antt)(text)))
+        rewrite(path, lambda text: choice(same_alias(special.get(path, antt)(text))))
     for path in glob.glob("crates/*/src/**/*.rt", recursive=True):
         rewrite(path, lambda text: source(text, antt))
     for path in glob.glob("crates/*/must-fail/*.edit"):
         rewrite(path, lambda text: edit(text, antt))
     for path in ["README.md"] + glob.glob("docs/*.md"):
         rewrite(path, lambda text: page(text, antt, camel))
+
+
+# A name that a `ghost use` brings under another one.
+CAMEL = re.compile(r"(?<![\w.])[a-z][a-z0-9]*[A-Z]\w*")
 
 
 def source(text, antt):
@@ -128,10 +132,24 @@ def source(text, antt):
                 depth = line.count("{") - line.count("}")
             else:
                 depth += line.count("{") - line.count("}")
-            out.append(antt(line))
+            out.append(choice(CAMEL.sub(lambda m: snake(m.group(0)), antt(line))))
         else:
             head, mark, comment = line.partition(" // ")
             out.append(head + mark + antt(comment))
+    return "\n".join(out)
+
+
+# The shut choice of loops/specs/Choice.antt: the library has an `if◌then◌else◌` of its own, which unfolds, and a name of the library's
+# stands for nothing else.
+CHOICE = re.compile(r"(?<![\w.'\-])if(?![\w'\-])")
+
+
+def choice(text):
+    """`if b then x else y` of loops as `when b then x else y`, outside of comments."""
+    out = []
+    for line in text.split("\n"):
+        head, mark, comment = line.partition("-- ") if "-- " in line else (line, "", "")
+        out.append(CHOICE.sub("when", head) + mark + comment)
     return "\n".join(out)
 
 
@@ -161,6 +179,7 @@ def edit(text, antt):
             line = antt(line)
             for pattern, by in AS_PORTED:
                 line = line[:5] + re.sub(pattern, by, line[5:])
+            line = choice(line)
         out.append(line)
     return "\n".join(out)
 

@@ -11,7 +11,7 @@ import weakref
 from pathlib import Path
 
 HOME = Path(__file__).resolve().parents[2]
-BUILT = HOME / "target" / ("bin/replay" if platform.machine() in ("x86_64", "AMD64") else "native-replay")
+BUILT = HOME / ("crates/replay/out/replay" if platform.machine() in ("x86_64", "AMD64") else "target/native-replay")
 FIRST = b"3FF8000000000000\n"  # what it first answers
 PATIENCE = 20  # seconds for the first answer of a program
 

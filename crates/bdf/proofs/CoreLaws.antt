@@ -2,9 +2,7 @@
 use Rattle.std.specs.Prelude.{◌≡◌, ℕ, Bool, true, false, List, [], ◌∷◌, length}
 use mathlib.Core.Path.{refl, sym, ap, subst, ◌∙◌}
 use mathlib.Core.Bool.{true≢false}
-use native.Mathlib.Omega.{arith}
 use lib.Ieee.{Float}
-use Rattle.loops.specs.Choice.{if◌then◌else◌}
 use Rattle.loops.specs.laws.ChoiceLaws.{when_true, when_false}
 use types.Run.{OneOf}
 use denote.Enum.Declared.{tag_of}
@@ -13,13 +11,12 @@ use Rattle.rules.specs.declared.types.Reply.{Reply}
 use Rattle.rules.specs.declared.types.Awaited.{Awaited}
 use Rattle.rules.specs.declared.types.Turn.{Turn}
 use Rattle.rules.specs.State.{After, after}
-use Rattle.rules.specs.laws.Ready.{Sane, Ready, Awake, Answered, Handed}
-use Rattle.rules.specs.Attempt.{Tried, rejected, says, main_loop}
+use Rattle.rules.specs.laws.Ready.{Sane, Ready, Awake, Handed}
+use Rattle.rules.specs.Attempt.{Tried, rejected, says, main_loop, rest}
 use Rattle.rules.specs.Step.{newton_replied}
 use Rattle.rules.specs.Replies.{wants, values_want}
 use Rattle.rules.specs.Reply.{stepped, newton_turn, restarted, replied}
-use Rattle.rules.specs.laws.ReplyLaws.{replied_ready}
-use Rattle.rules.specs.laws.MainLoopLaws.{rest}
+use Rattle.rules.proofs.laws.ReplyLaws.{replied_ready}
 use Rattle.bdf.specs.declared.carried.Core.{Core}
 use Rattle.bdf.specs.declared.carried.Outcome.{Outcome}
 use Rattle.bdf.specs.declared.carried.Next.{Next}

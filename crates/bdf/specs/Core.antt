@@ -1,16 +1,15 @@
 -- The state without its pivots and what a stage came to, as the definitions have them: with the pivots that stand beside.
 use Rattle.std.specs.Prelude.{◌≡◌, ℕ, Bool, true, false, List, []}
 use Rattle.std.specs.Prelude.{Float}
-use Rattle.loops.specs.Choice.{if◌then◌else◌}
+use Rattle.loops.specs.Choice.{when◌then◌else◌}
 use Rattle.rules.specs.declared.types.Progress.{Progress}
 use Rattle.rules.specs.declared.types.Turn.{Turn}
 use Rattle.rules.specs.declared.types.Awaited.{Awaited}
 use Rattle.rules.specs.declared.types.Awaited.TheVariants.{FirstDerivative, FirstJacobian, StartDerivative, StartNotice, ModifiedStartDerivative, ModifiedStartJacobian, NewtonDerivative, FailedJacobian, StepNotice, ModifiedStepDerivative, ModifiedStepJacobian, OrderJacobian, Ended}
 use Rattle.rules.specs.State.{After, after}
 use Rattle.rules.specs.laws.Ready.{Ready}
-use Rattle.rules.specs.Attempt.{Tried, rejected, says}
+use Rattle.rules.specs.Attempt.{Tried, rejected, says, rest}
 use Rattle.rules.specs.Reply.{stepped}
-use Rattle.rules.specs.laws.MainLoopLaws.{rest}
 use Rattle.rules.specs.declared.stages.Factors.{Factors}
 use Rattle.bdf.specs.declared.carried.Core.{Core}
 use Rattle.bdf.specs.declared.carried.Outcome.{Outcome}
@@ -79,7 +78,7 @@ abbrev pub left_over : Outcome → List ℕ → List Float → List Float → Af
 left_over o pivot ws q = rest (tried o pivot) ws q
 
 abbrev pub resumed : Next → List ℕ → List Float → List Float → After Turn
-resumed r pivot ws q = if r.steps then stepped (whole r.outcome.at pivot) ws q else left_over r.outcome pivot ws q
+resumed r pivot ws q = when r.steps then stepped (whole r.outcome.at pivot) ws q else left_over r.outcome pivot ws q
 
 -- for which the state is ready
 abbrev pub Prepared : Outcome → List Float → List Float → Type 0

@@ -1,7 +1,7 @@
 // The size of a step: between its bounds, and cut where it would lead past the end.
 ghost use Rattle.std.specs.Prelude.{◌≡◌, ℕ, ◌+◌, ◌*◌, ◌<◌, ◌≤◌, List};
 ghost use Rattle.rules.specs.laws.Ready.{Room};
-ghost use Rattle.rules.specs.State.{left, changed as changedOf};
+ghost use Rattle.rules.specs.State.{left, changed as changed_of};
 ghost use Rattle.bdf.specs.Core.{whole};
 ghost use Rattle.rules.specs.Attempt.{rescaled_d, to_hmax, to_hmin, aim_at, cut_at_end, aimed};
 
@@ -13,7 +13,7 @@ use rules::stages::Aimed;
 use rules::types::{Aim, Pace};
 
 fn changed(h: f64) -> Pace
-    ensures { result ≡ changedOf h }
+    ensures { result ≡ changed_of h }
 {
     Pace {
         h,

@@ -4,7 +4,7 @@ ghost use Rattle.matrix.specs.Size.{max_n};
 ghost use Rattle.rules.specs.laws.Ready.{Room, Sane, Ready};
 ghost use Rattle.rules.specs.State.{left, after};
 ghost use Rattle.bdf.specs.Core.{whole, bare, tried};
-ghost use Rattle.rules.specs.Attempt.{told, halved, newton_start, must_factor, refactored, attempt_at, unless_stuck, fitted, fitted_attempt, attempt as attemptOf};
+ghost use Rattle.rules.specs.Attempt.{told, halved, newton_start, must_factor, refactored, attempt_at, unless_stuck, fitted, fitted_attempt, attempt as attempt_of};
 
 use crate::aim::{aim, rescale_d, to_hmax, to_hmin};
 use crate::carried::{Core, Outcome, again, end, says};
@@ -144,7 +144,7 @@ fn fitted_attempt(ws: &mut [f64], q: &mut [f64], pivot: &mut [usize], p: Core) -
 
 pub(crate) fn attempt(ws: &mut [f64], q: &mut [f64], pivot: &mut [usize], p: Core) -> Outcome
     requires { Ready (bare p) ws.old q.old × (max_n ≤ length pivot.old) }
-    ensures { after (tried result pivot.new) ws.new q.new ≡ attemptOf (whole p pivot.old) ws.old q.old }
+    ensures { after (tried result pivot.new) ws.new q.new ≡ attempt_of (whole p pivot.old) ws.old q.old }
 {
     if p.limits.steps <= p.steps.total {
         return end(Status::NeedLargerNMax, p);

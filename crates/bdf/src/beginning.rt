@@ -4,8 +4,8 @@ ghost use Rattle.rules.specs.laws.Ready.{Room};
 ghost use Rattle.rules.specs.State.{after, turn};
 ghost use Rattle.rules.specs.declared.types.Awaited.TheVariants.{Ended};
 ghost use Rattle.rules.specs.Places.{need as need_of};
-ghost use Rattle.rules.specs.Checks.{reaches as reachesOf};
-ghost use Rattle.rules.specs.Begin.{or_given, least as leastOf, derived_tol, newton_tol_val, guard_of, span_of, fresh as fresh_of, kept as keptOf, nothing as nothingOf, tolerances, begin_ws, ask_first, begin_run, begin_of};
+ghost use Rattle.rules.specs.Checks.{reaches as reaches_of};
+ghost use Rattle.rules.specs.Begin.{or_given, least as least_of, derived_tol, newton_tol_val, guard_of, span_of, fresh as fresh_of, kept as kept_of, nothing as nothing_of, tolerances, begin_ws, ask_first, begin_run, begin_of};
 ghost use Rattle.matrix.specs.Size.{max_n};
 
 use crate::attempt::tell;
@@ -32,8 +32,8 @@ fn or_given(s: Setting, other: f64) -> f64
 }
 
 fn least(r: Tolerance, rs: &[f64], n: usize) -> f64
-    requires { reachesOf r rs.now n ≡ true }
-    ensures { result ≡ leastOf r rs.now n }
+    requires { reaches_of r rs.now n ≡ true }
+    ensures { result ≡ least_of r rs.now n }
 {
     let mut m = infinity();
     let mut i = 0;
@@ -120,7 +120,7 @@ fn fresh(n: usize, limits: Limits, span: Span, x: f64) -> Progress
 }
 
 fn nothing(answer: Answer) -> Turn
-    ensures { result ≡ turn answer Ended nothingOf }
+    ensures { result ≡ turn answer Ended nothing_of }
 {
     let limits = Limits {
         steps: 1,
@@ -145,7 +145,7 @@ fn nothing(answer: Answer) -> Turn
 }
 
 fn lay_tolerances(ws: &mut [f64], t: Tolerance, values: &[f64], to: usize, n: usize)
-    requires { (reachesOf t values.now n ≡ true) × (to + n ≤ length ws.old) }
+    requires { (reaches_of t values.now n ≡ true) × (to + n ≤ length ws.old) }
     ensures { ws.new ≡ tolerances t values.now to n ws.old }
 {
     match t {
@@ -155,7 +155,7 @@ fn lay_tolerances(ws: &mut [f64], t: Tolerance, values: &[f64], to: usize, n: us
 }
 
 fn lay(ws: &mut [f64], y0: &[f64], r: Tolerance, rs: &[f64], a: Tolerance, als: &[f64])
-    requires { Room (length y0.now) ws.old × (reachesOf r rs.now (length y0.now) ≡ true) × (reachesOf a als.now (length y0.now) ≡ true) }
+    requires { Room (length y0.now) ws.old × (reaches_of r rs.now (length y0.now) ≡ true) × (reaches_of a als.now (length y0.now) ≡ true) }
     ensures { ws.new ≡ begin_ws (length y0.now) y0.now r rs.now a als.now ws.old }
 {
     let n = y0.len();
@@ -188,7 +188,7 @@ fn ask_first(
     atols: &[f64],
     p: Progress,
 ) -> Turn
-    requires { (p.n ≡ length y0.now) × Room (length y0.now) ws.old × (8 * length y0.now ≤ length q.old) × (reachesOf rtol rtols.now (length y0.now) ≡ true) × (reachesOf atol atols.now (length y0.now) ≡ true) }
+    requires { (p.n ≡ length y0.now) × Room (length y0.now) ws.old × (8 * length y0.now ≤ length q.old) × (reaches_of rtol rtols.now (length y0.now) ≡ true) × (reaches_of atol atols.now (length y0.now) ≡ true) }
     ensures { after result ws.new q.new ≡ ask_first p y0.now rtol rtols.now atol atols.now ws.old q.old }
 {
     lay(ws, y0, rtol, rtols, atol, atols);
@@ -204,8 +204,8 @@ fn ask_first(
 
 // What a run keeps from its beginning on.
 fn kept(settings: BDF, n: usize, x0: f64, xend: f64, rtol: Tolerance, rtols: &[f64]) -> Progress
-    requires { reachesOf rtol rtols.now n ≡ true }
-    ensures { result ≡ keptOf settings n x0 xend rtol rtols.now }
+    requires { reaches_of rtol rtols.now n ≡ true }
+    ensures { result ≡ kept_of settings n x0 xend rtol rtols.now }
 {
     let rtol_min = number::max(least(rtol, rtols, n), EPSILON);
     let limits = Limits {
@@ -229,7 +229,7 @@ fn begin_run(
     ws: &mut [f64],
     q: &mut [f64],
 ) -> Turn
-    requires { (1 ≤ length y0.now) × (length y0.now ≤ max_n) × (need_of (length y0.now) ≤ length ws.old) × (8 * length y0.now ≤ length q.old) × (reachesOf rtol rtols.now (length y0.now) ≡ true) × (reachesOf atol atols.now (length y0.now) ≡ true) }
+    requires { (1 ≤ length y0.now) × (length y0.now ≤ max_n) × (need_of (length y0.now) ≤ length ws.old) × (8 * length y0.now ≤ length q.old) × (reaches_of rtol rtols.now (length y0.now) ≡ true) × (reaches_of atol atols.now (length y0.now) ≡ true) }
     ensures { after result ws.new q.new ≡ begin_run settings x0 y0.now xend rtol rtols.now atol atols.now ws.old q.old }
 {
     let n = y0.len();

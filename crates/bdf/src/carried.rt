@@ -1,9 +1,9 @@
 // A run's state without its pivots, and what its stages hand to one another. The pivots stand in an array that is lent beside:
 // so no stage copies it, and what is left are single numbers.
 ghost use Rattle.std.specs.Prelude.{◌≡◌, ℕ, List};
-ghost use Rattle.rules.specs.Attempt.{end as end_of, says as says_of, rejected as rejectedOf};
+ghost use Rattle.rules.specs.Attempt.{end as end_of, says as says_of, rejected as rejected_of};
 ghost use Rattle.rules.specs.State.{turn as turn_of};
-ghost use Rattle.bdf.specs.Core.{whole as whole_of, core_of, turn_of as fullTurn, tried};
+ghost use Rattle.bdf.specs.Core.{whole as whole_of, core_of, turn_of as full_turn, tried};
 
 use matrix::MAX_N;
 use rules::types::{
@@ -94,7 +94,7 @@ fn whole(p: Core, pivot: [usize; MAX_N]) -> Progress
 }
 
 pub(crate) fn turn(o: Outcome, pivot: [usize; MAX_N]) -> Turn
-    ensures { result ≡ fullTurn o pivot }
+    ensures { result ≡ full_turn o pivot }
 {
     let answer = o.answer;
     let awaited = o.awaited;
@@ -125,7 +125,7 @@ pub(crate) fn end(status: Status, p: Core) -> Outcome
 }
 
 pub(crate) fn again(p: Core) -> Outcome
-    ensures { (pivot : List ℕ) → tried result pivot ≡ rejectedOf (whole_of p pivot) }
+    ensures { (pivot : List ℕ) → tried result pivot ≡ rejected_of (whole_of p pivot) }
 {
     Outcome {
         again: true,

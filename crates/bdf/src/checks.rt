@@ -1,7 +1,7 @@
 // The checks of a beginning, in their order.
 ghost use Rattle.std.specs.Prelude.{◌≡◌, ◌+◌, ◌≤◌, true};
 ghost use Rattle.matrix.specs.Size.{max_n};
-ghost use Rattle.rules.specs.Checks.{entry as entry_of, reaches as reachesOf, negative as negativeOf, zero_step, limited as limitedOf, tolerances_checked, checked as checkedOf};
+ghost use Rattle.rules.specs.Checks.{entry as entry_of, reaches as reaches_of, negative as negative_of, zero_step, limited as limited_of, tolerances_checked, checked as checked_of};
 
 use crate::places::{ROWS, row};
 use rules::settings::BDF;
@@ -9,7 +9,7 @@ use rules::stages::Check;
 use rules::types::{Kind, Refusal, Setting, Tolerance};
 
 pub(crate) fn entry(t: Tolerance, values: &[f64], i: usize) -> f64
-    requires { reachesOf t values.now (i + 1) ≡ true }
+    requires { reaches_of t values.now (i + 1) ≡ true }
     ensures { result ≡ entry_of t values.now i }
 {
     match t {
@@ -19,7 +19,7 @@ pub(crate) fn entry(t: Tolerance, values: &[f64], i: usize) -> f64
 }
 
 pub(crate) fn reaches(t: Tolerance, values: &[f64], n: usize) -> bool
-    ensures { result ≡ reachesOf t values.now n }
+    ensures { result ≡ reaches_of t values.now n }
 {
     match t {
         Tolerance::Scalar(_) => true,
@@ -28,8 +28,8 @@ pub(crate) fn reaches(t: Tolerance, values: &[f64], n: usize) -> bool
 }
 
 fn negative(r: Tolerance, rs: &[f64], a: Tolerance, als: &[f64], n: usize) -> Check
-    requires { (reachesOf r rs.now n ≡ true) × (reachesOf a als.now n ≡ true) }
-    ensures { result ≡ negativeOf r rs.now a als.now n 0 }
+    requires { (reaches_of r rs.now n ≡ true) × (reaches_of a als.now n ≡ true) }
+    ensures { result ≡ negative_of r rs.now a als.now n 0 }
 {
     let mut i = 0;
     while i < n {
@@ -73,7 +73,7 @@ fn zero_step(first: Setting, direction: f64) -> Check
 }
 
 fn limited(s: BDF, direction: f64) -> Check
-    ensures { result ≡ limitedOf s direction }
+    ensures { result ≡ limited_of s direction }
 {
     if s.max_steps == 0 {
         return Check::Refuse(Refusal::NoSteps);
@@ -124,7 +124,7 @@ pub(crate) fn checked(
     questions: usize,
 ) -> Check
     requires { n ≤ max_n }
-    ensures { result ≡ checkedOf s n direction r rs.now a als.now room questions }
+    ensures { result ≡ checked_of s n direction r rs.now a als.now room questions }
 {
     let need = row(n, ROWS);
     if room < need {

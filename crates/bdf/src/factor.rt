@@ -3,7 +3,7 @@ ghost use Rattle.std.specs.Prelude.{◌≡◌, ◌<◌, ◌≤◌, length};
 ghost use Rattle.rules.specs.laws.Ready.{Room};
 ghost use Rattle.rules.specs.State.{left};
 ghost use Rattle.bdf.specs.Core.{factors};
-ghost use Rattle.rules.specs.Factor.{matrix_cells, diagonal as diagonalOf, matrix as matrixOf, factored};
+ghost use Rattle.rules.specs.Factor.{matrix_cells, diagonal as diagonal_of, matrix as matrix_of, factored};
 
 use crate::places::{get_lu, jac, put_lu};
 use matrix::Factoring;
@@ -22,7 +22,7 @@ fn matrix_cells(ws: &mut [f64], n: usize, c: f64, r: usize)
 
 fn diagonal(ws: &mut [f64], n: usize, r: usize)
     requires { Room n ws.old × (r < n) }
-    ensures { ws.new ≡ diagonalOf n r ws.old }
+    ensures { ws.new ≡ diagonal_of n r ws.old }
 {
     let x = get_lu(ws, n, r, r) + 1.0;
     put_lu(ws, n, r, r, x);
@@ -30,7 +30,7 @@ fn diagonal(ws: &mut [f64], n: usize, r: usize)
 
 fn matrix_rows(ws: &mut [f64], n: usize, c: f64)
     requires { Room n ws.old }
-    ensures { ws.new ≡ matrixOf n c ws.old }
+    ensures { ws.new ≡ matrix_of n c ws.old }
 {
     let mut r = 0;
     while r < n {

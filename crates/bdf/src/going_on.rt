@@ -5,7 +5,7 @@ ghost use Rattle.rules.specs.laws.Ready.{Handed};
 ghost use Rattle.rules.specs.State.{after};
 ghost use Rattle.rules.specs.Replies.{awaits_newton, is_ended, word_wants, values_want, wants};
 ghost use Rattle.bdf.specs.Core.{whole, bare, turn_of};
-ghost use Rattle.rules.specs.GoOn.{pivot_outside, limits_damaged, steps_damaged, counters_damaged, damaged_above0, damaged as damagedOf, count_checked, go_checked, go_within, go_on_of};
+ghost use Rattle.rules.specs.GoOn.{pivot_outside, limits_damaged, steps_damaged, counters_damaged, damaged_above0, damaged as damaged_of, count_checked, go_checked, go_within, go_on_of};
 
 use crate::carried::{Core, Outcome, says, turn, without_pivots};
 use crate::places::{ROWS, row};
@@ -136,7 +136,7 @@ fn damaged_above_0(w: Awaited, p: Progress, pivot: &[usize]) -> bool
 
 fn damaged(w: Awaited, p: Progress, pivot: &[usize]) -> bool
     requires { (length pivot.now ≡ max_n) × (pivot.now ≡ p.pivot) }
-    ensures { result ≡ damagedOf w p }
+    ensures { result ≡ damaged_of w p }
 {
     if MAX_N < p.n {
         return true;

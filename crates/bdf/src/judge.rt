@@ -1,7 +1,7 @@
 // The error's norm, and the differences and coefficients of an accepted step.
 ghost use Rattle.std.specs.Prelude.{◌≡◌, ◌+◌, ◌*◌, ◌<◌, ◌≤◌, slice_set};
 ghost use Rattle.rules.specs.laws.Ready.{Room};
-ghost use Rattle.rules.specs.Judge.{coefficient as place, safety_of, weighed, newest as newestOf, add_next, summed, coeff, coeffs, prepared, accepted_ws};
+ghost use Rattle.rules.specs.Judge.{coefficient as place, safety_of, weighed, newest as newest_of, add_next, summed, coeff, coeffs, prepared, accepted_ws};
 
 use crate::moves::copy;
 use crate::places::{CONT, DELTA, RHS, Y, Y_NEW, get, put, row};
@@ -28,7 +28,7 @@ pub(crate) fn weigh(ws: &mut [f64], n: usize, k: f64, v: usize)
 
 fn newest(ws: &mut [f64], n: usize, order: usize)
     requires { Room n ws.old × (order ≤ 5) }
-    ensures { ws.new ≡ newestOf n order ws.old }
+    ensures { ws.new ≡ newest_of n order ws.old }
 {
     let mut i = 0;
     while i < n {

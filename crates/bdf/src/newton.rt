@@ -1,7 +1,7 @@
 // One turn of the simplified Newton iteration.
 ghost use Rattle.std.specs.Prelude.{◌≡◌, ◌+◌, ◌*◌, ◌<◌, ◌≤◌, length};
 ghost use Rattle.rules.specs.laws.Ready.{Room};
-ghost use Rattle.rules.specs.Newton.{residual as residualOf, solved, correction, advanced_at, advanced, power as powerOf, too_slow, settled as settled_of, converged as convergedOf, gave_up};
+ghost use Rattle.rules.specs.Newton.{residual as residual_of, solved, correction, advanced_at, advanced, power as power_of, too_slow, settled as settled_of, converged as converged_of, gave_up};
 
 use crate::moves::load;
 use crate::places::{DELTA, PSI, RHS, Y_NEW, get, put, row};
@@ -9,7 +9,7 @@ use matrix::MAX_N;
 
 fn residual(ws: &mut [f64], n: usize, c: f64)
     requires { Room n ws.old }
-    ensures { ws.new ≡ residualOf n c ws.old }
+    ensures { ws.new ≡ residual_of n c ws.old }
 {
     let mut i = 0;
     while i < n {
@@ -73,7 +73,7 @@ pub(crate) fn advance(ws: &mut [f64], n: usize)
 // x times itself left to right.
 fn power(x: f64, k: usize) -> f64
     requires { k ≤ 64 }
-    ensures { result ≡ powerOf x k }
+    ensures { result ≡ power_of x k }
 {
     let mut p = 1.0;
     let mut i = 0;
@@ -106,7 +106,7 @@ fn settled(tol: f64, prev: f64, norm: f64) -> bool
 }
 
 pub(crate) fn converged(tol: f64, iters: usize, prev: f64, norm: f64) -> bool
-    ensures { result ≡ convergedOf tol iters prev norm }
+    ensures { result ≡ converged_of tol iters prev norm }
 {
     if norm == 0.0 {
         return true;

@@ -3,7 +3,7 @@
 ghost use Rattle.std.specs.Prelude.{◌≡◌, ◌+◌, ◌*◌, ◌<◌, ◌≤◌};
 ghost use Rattle.matrix.specs.Size.{max_n};
 ghost use Rattle.rules.specs.laws.Ready.{Room};
-ghost use Rattle.rules.specs.Places.{row as row_of, get as getOf, put as put_of, jac as jacOf, lu as luOf, put_lu};
+ghost use Rattle.rules.specs.Places.{row as row_of, get as get_of, put as put_of, jac as jac_of, lu as lu_of, put_lu};
 
 // D[k] is row k, for k from 0 to 7; the Rust's scratch_change, rows 8 to 13, is a local array here.
 pub(crate) const PSI: usize = 14;
@@ -45,7 +45,7 @@ pub(crate) fn row(n: usize, v: usize) -> usize
 // Element i of the vector at row v.
 pub(crate) fn get(ws: &[f64], n: usize, v: usize, i: usize) -> f64
     requires { Room n ws.now × (v < 33) × (i < n) }
-    ensures { result ≡ getOf n ws.now v i }
+    ensures { result ≡ get_of n ws.now v i }
 {
     ws[n * n + n * n + v * n + i]
 }
@@ -60,7 +60,7 @@ pub(crate) fn put(ws: &mut [f64], n: usize, v: usize, i: usize, x: f64)
 // Entry (r, c) of the Jacobian.
 pub(crate) fn jac(ws: &[f64], n: usize, r: usize, c: usize) -> f64
     requires { Room n ws.now × (r < n) × (c < n) }
-    ensures { result ≡ jacOf n ws.now r c }
+    ensures { result ≡ jac_of n ws.now r c }
 {
     ws[r * n + c]
 }
@@ -68,7 +68,7 @@ pub(crate) fn jac(ws: &[f64], n: usize, r: usize, c: usize) -> f64
 // Entry (r, c) of the matrix to be factored.
 pub(crate) fn get_lu(ws: &[f64], n: usize, r: usize, c: usize) -> f64
     requires { Room n ws.now × (r < n) × (c < n) }
-    ensures { result ≡ luOf n ws.now r c }
+    ensures { result ≡ lu_of n ws.now r c }
 {
     ws[n * n + r * n + c]
 }

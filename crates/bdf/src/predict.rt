@@ -1,7 +1,7 @@
 // The predictor, the scale and psi of an attempt.
 ghost use Rattle.std.specs.Prelude.{◌≡◌, ◌<◌, ◌≤◌};
 ghost use Rattle.rules.specs.laws.Ready.{Room};
-ghost use Rattle.rules.specs.Predict.{predicted as predictedOf, predict as predictOf, scale_of, scale_at, scaled, psi_sum, psied};
+ghost use Rattle.rules.specs.Predict.{predicted as predicted_of, predict as predict_of, scale_of, scale_at, scaled, psi_sum, psied};
 
 use crate::places::{ATOL, PSI, RTOL, SCALE, Y_PREDICT, get, put};
 use crate::tables::{alpha, gamma};
@@ -11,7 +11,7 @@ pub(crate) const EPSILON: f64 = 2.220446049250313e-16;
 // The sum of D[0] to D[order] at component i.
 fn predicted(ws: &[f64], n: usize, order: usize, i: usize) -> f64
     requires { Room n ws.now × (order ≤ 5) × (i < n) }
-    ensures { result ≡ predictedOf n ws.now order i }
+    ensures { result ≡ predicted_of n ws.now order i }
 {
     let mut sum = 0.0;
     let mut k = 0;
@@ -24,7 +24,7 @@ fn predicted(ws: &[f64], n: usize, order: usize, i: usize) -> f64
 
 pub(crate) fn predict(ws: &mut [f64], n: usize, order: usize)
     requires { Room n ws.old × (order ≤ 5) }
-    ensures { ws.new ≡ predictOf n order ws.old }
+    ensures { ws.new ≡ predict_of n order ws.old }
 {
     let mut i = 0;
     while i < n {

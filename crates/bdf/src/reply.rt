@@ -4,7 +4,7 @@ ghost use Rattle.matrix.specs.Size.{max_n};
 ghost use Rattle.rules.specs.laws.Ready.{Room, Ready, Awake, Enough, Answered};
 ghost use Rattle.rules.specs.State.{left, after};
 ghost use Rattle.bdf.specs.Core.{whole, bare, tried, spoken, plainly, left_over, resumed, Prepared, Resumable, restart_place};
-ghost use Rattle.rules.specs.Reply.{ask_derivative, ask_jacobian, first_difference, differences as differencesOf, started, hinit_asks, first_step, hinit_replied, modified as modifiedOf, restarted as restartedOf, jacobian_stored, outdated as outdatedOf, chosen as chosen_of, ordered as orderedOf, stepped as steppedOf, failed_turn, start_noticed, step_noticed, first_derivative, first_jacobian, restart_jacobian, step_jacobian, order_jacobian, replied as repliedOf};
+ghost use Rattle.rules.specs.Reply.{ask_derivative, ask_jacobian, first_difference, differences as differences_of, started, hinit_asks, first_step, hinit_replied, modified as modified_of, restarted as restarted_of, jacobian_stored, outdated as outdated_of, chosen as chosen_of, ordered as ordered_of, stepped as stepped_of, failed_turn, start_noticed, step_noticed, first_derivative, first_jacobian, restart_jacobian, step_jacobian, order_jacobian, replied as replied_of};
 
 use crate::aim::rescale_d;
 use crate::attempt::{halve, tell};
@@ -49,7 +49,7 @@ fn first_difference(ws: &mut [f64], n: usize, h: f64, direction: f64)
 
 fn differences(ws: &mut [f64], n: usize, h: f64, direction: f64)
     requires { Room n ws.old }
-    ensures { ws.new ≡ differencesOf n h direction ws.old }
+    ensures { ws.new ≡ differences_of n h direction ws.old }
 {
     fill(ws, row(n, 2), 6 * n, 0.0);
     copy(ws, row(n, Y), row(n, 0), n);
@@ -113,7 +113,7 @@ fn modified(
     values: &[f64],
 ) -> Outcome
     requires { Room p.n ws.old × (8 * p.n ≤ length q.old) × (p.n ≤ length values.now) }
-    ensures { (pivot : List ℕ) → after (tried result pivot) ws.new q.new ≡ spoken (modifiedOf awaited (whole p pivot) x values.now ws.old q.old) }
+    ensures { (pivot : List ℕ) → after (tried result pivot) ws.new q.new ≡ spoken (modified_of awaited (whole p pivot) x values.now ws.old q.old) }
 {
     load(ws, values, 0, row(p.n, Y), p.n);
     let mut r = p;
@@ -133,7 +133,7 @@ fn restart_place(w: Awaited) -> Awaited
 
 fn restarted(ws: &mut [f64], q: &mut [f64], w: Awaited, p: Core, values: &[f64]) -> Outcome
     requires { Ready (bare p) ws.old q.old × Awake (bare p) × (p.n ≤ length values.now) }
-    ensures { (pivot : List ℕ) → after (tried result pivot) ws.new q.new ≡ spoken (restartedOf (restart_place w) (whole p pivot) values.now ws.old q.old) }
+    ensures { (pivot : List ℕ) → after (tried result pivot) ws.new q.new ≡ spoken (restarted_of (restart_place w) (whole p pivot) values.now ws.old q.old) }
 {
     load(ws, values, 0, row(p.n, F0), p.n);
     differences(ws, p.n, p.pace.h, p.span.direction);
@@ -158,7 +158,7 @@ fn jacobian(ws: &mut [f64], p: Core, values: &[f64]) -> Core
 }
 
 fn outdated(p: Core) -> Core
-    ensures { (pivot : List ℕ) → whole result pivot ≡ outdatedOf (whole p pivot) }
+    ensures { (pivot : List ℕ) → whole result pivot ≡ outdated_of (whole p pivot) }
 {
     let mut r = p;
     r.pace.lu_is_current = false;
@@ -184,7 +184,7 @@ fn chosen(ws: &mut [f64], q: &mut [f64], p: Core, c: Choice) -> Outcome
 
 fn ordered(ws: &mut [f64], q: &mut [f64], p: Core) -> Outcome
     requires { Ready (bare p) ws.old q.old }
-    ensures { Prepared result ws.new q.new × ((pivot : List ℕ) → left_over result pivot ws.new q.new ≡ orderedOf (whole p pivot) ws.old q.old) }
+    ensures { Prepared result ws.new q.new × ((pivot : List ℕ) → left_over result pivot ws.new q.new ≡ ordered_of (whole p pivot) ws.old q.old) }
 {
     let m = err_m(ws, p.n, p.order);
     let a = err_p(ws, p.n, p.order);
@@ -194,7 +194,7 @@ fn ordered(ws: &mut [f64], q: &mut [f64], p: Core) -> Outcome
 
 pub(crate) fn stepped(ws: &mut [f64], q: &mut [f64], p: Core) -> Outcome
     requires { Ready (bare p) ws.old q.old }
-    ensures { Prepared result ws.new q.new × ((pivot : List ℕ) → left_over result pivot ws.new q.new ≡ steppedOf (whole p pivot) ws.old q.old) }
+    ensures { Prepared result ws.new q.new × ((pivot : List ℕ) → left_over result pivot ws.new q.new ≡ stepped_of (whole p pivot) ws.old q.old) }
 {
     if p.span.direction * (p.x - p.span.xend) >= 0.0 {
         return end(Status::Success, p);
@@ -311,7 +311,7 @@ pub(crate) fn replied(
     values: &[f64],
 ) -> Next
     requires { Ready (bare p) ws.old q.old × Awake (bare p) × Answered w (bare p) reply values.now × (max_n ≤ length pivot.now) }
-    ensures { Resumable result ws.new q.new × (resumed result pivot.now ws.new q.new ≡ repliedOf w (whole p pivot.now) reply values.now ws.old q.old) }
+    ensures { Resumable result ws.new q.new × (resumed result pivot.now ws.new q.new ≡ replied_of w (whole p pivot.now) reply values.now ws.old q.old) }
 {
     match w {
         Awaited::FirstDerivative => plain(first_derivative(ws, q, p, values)),

@@ -3,7 +3,7 @@ ghost use Rattle.std.specs.Prelude.{◌≡◌, ◌≤◌, length};
 ghost use Rattle.matrix.specs.Size.{max_n};
 ghost use Rattle.rules.specs.laws.Ready.{Ready, Awake, Answered};
 ghost use Rattle.rules.specs.State.{after};
-ghost use Rattle.rules.specs.Reply.{replied as repliedOf};
+ghost use Rattle.rules.specs.Reply.{replied as replied_of};
 ghost use Rattle.bdf.specs.Core.{whole, bare, turn_of, left_over, Prepared};
 
 use crate::attempt::attempt;
@@ -21,7 +21,7 @@ fn first_stage(
     values: &[f64],
 ) -> Outcome
     requires { Ready (bare p) ws.old q.old × Awake (bare p) × Answered w (bare p) reply values.now × (max_n ≤ length pivot.now) }
-    ensures { Prepared result ws.new q.new × (left_over result pivot.now ws.new q.new ≡ repliedOf w (whole p pivot.now) reply values.now ws.old q.old) }
+    ensures { Prepared result ws.new q.new × (left_over result pivot.now ws.new q.new ≡ replied_of w (whole p pivot.now) reply values.now ws.old q.old) }
 {
     let next = replied(ws, q, pivot, w, p, reply, values);
     let outcome = next.outcome;
@@ -42,7 +42,7 @@ pub(crate) fn run(
     values: &[f64],
 ) -> Outcome
     requires { Ready (bare p) ws.old q.old × Awake (bare p) × Answered w (bare p) reply values.now × (max_n ≤ length pivot.old) }
-    ensures { after (turn_of result pivot.new) ws.new q.new ≡ repliedOf w (whole p pivot.old) reply values.now ws.old q.old }
+    ensures { after (turn_of result pivot.new) ws.new q.new ≡ replied_of w (whole p pivot.old) reply values.now ws.old q.old }
 {
     let mut o = first_stage(ws, q, pivot, w, p, reply, values);
     while o.again {

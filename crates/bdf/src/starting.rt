@@ -1,20 +1,20 @@
 // `hinit`, cut where it asks its one derivative, and what `solve` makes of its guess.
 ghost use Rattle.std.specs.Prelude.{◌≡◌, ◌+◌, ◌*◌, ◌<◌, ◌≤◌};
 ghost use Rattle.rules.specs.laws.Ready.{Room};
-ghost use Rattle.rules.specs.Starting.{sk as skOf, squares as squaresOf, raw_guess, first_guess, guess as guessOf, euler as eulerOf, second as second_of, h1 as h1Of, final_guess, hinit as hinitOf, within_span};
+ghost use Rattle.rules.specs.Starting.{sk as sk_of, squares as squares_of, raw_guess, first_guess, guess as guess_of, euler as euler_of, second as second_of, h1 as h1_of, final_guess, hinit as hinit_of, within_span};
 
 use crate::places::{ATOL, F0, F1, RTOL, Y, Y1, get, put};
 
 fn sk(ws: &[f64], n: usize, i: usize) -> f64
     requires { Room n ws.now × (i < n) }
-    ensures { result ≡ skOf n ws.now i }
+    ensures { result ≡ sk_of n ws.now i }
 {
     get(ws, n, ATOL, i) + get(ws, n, RTOL, i) * number::abs(get(ws, n, Y, i))
 }
 
 fn squares(ws: &[f64], n: usize, v: usize) -> f64
     requires { Room n ws.now × (v < 33) }
-    ensures { result ≡ squaresOf n v ws.now }
+    ensures { result ≡ squares_of n v ws.now }
 {
     let mut sum = 0.0;
     let mut i = 0;
@@ -48,14 +48,14 @@ fn first_guess(dnf: f64, dny: f64, hmax: f64, posneg: f64) -> f64
 
 pub(crate) fn guess(ws: &[f64], n: usize, hmax: f64, posneg: f64) -> f64
     requires { Room n ws.now }
-    ensures { result ≡ guessOf n hmax posneg ws.now }
+    ensures { result ≡ guess_of n hmax posneg ws.now }
 {
     first_guess(squares(ws, n, F0), squares(ws, n, Y), hmax, posneg)
 }
 
 pub(crate) fn euler(ws: &mut [f64], n: usize, h: f64)
     requires { Room n ws.old }
-    ensures { ws.new ≡ eulerOf n h ws.old }
+    ensures { ws.new ≡ euler_of n h ws.old }
 {
     let mut i = 0;
     while i < n {
@@ -81,7 +81,7 @@ fn second(ws: &[f64], n: usize) -> f64
 
 // The step that the derivatives allow.
 fn h1(der12: f64, size: f64) -> f64
-    ensures { result ≡ h1Of der12 size }
+    ensures { result ≡ h1_of der12 size }
 {
     if der12 <= 1.0e-15 {
         number::max(1.0e-6, size * 1.0e-3)
@@ -105,7 +105,7 @@ fn final_guess(sum: f64, dnf: f64, h: f64, hmax: f64, posneg: f64) -> f64
 
 pub(crate) fn hinit(ws: &[f64], n: usize, hmax: f64, posneg: f64) -> f64
     requires { Room n ws.now }
-    ensures { result ≡ hinitOf n hmax posneg ws.now }
+    ensures { result ≡ hinit_of n hmax posneg ws.now }
 {
     let h = guess(ws, n, hmax, posneg);
     final_guess(second(ws, n), squares(ws, n, F0), h, hmax, posneg)

@@ -4,7 +4,7 @@ ghost use Rattle.matrix.specs.Size.{max_n};
 ghost use Rattle.rules.specs.laws.Ready.{Room, Sane, Ready, Awake, Judging};
 ghost use Rattle.rules.specs.State.{left, after};
 ghost use Rattle.bdf.specs.Core.{whole, bare, tried};
-ghost use Rattle.rules.specs.Step.{error_fails, error_factor, error_rejected, step_accepted, judged, newton_failed, newton_again, iterated as iteratedOf, newton_replied};
+ghost use Rattle.rules.specs.Step.{error_fails, error_factor, error_rejected, step_accepted, judged, newton_failed, newton_again, iterated as iterated_of, newton_replied};
 
 use crate::aim::rescale_d;
 use crate::attempt::tell;
@@ -122,7 +122,7 @@ fn newton_again(ws: &[f64], q: &mut [f64], p: Core, norm: f64) -> Outcome
 
 fn iterated(ws: &mut [f64], q: &mut [f64], p: Core, norm: f64) -> Outcome
     requires { Ready (bare p) ws.old q.old × Judging (bare p) × (p.newton.iters < p.limits.newton) }
-    ensures { (pivot : List ℕ) → after (tried result pivot) ws.new q.new ≡ iteratedOf (whole p pivot) norm ws.old q.old }
+    ensures { (pivot : List ℕ) → after (tried result pivot) ws.new q.new ≡ iterated_of (whole p pivot) norm ws.old q.old }
 {
     let tol = p.span.newton_tol;
     if converged(tol, p.newton.iters, p.newton.prev, norm) {

@@ -3,7 +3,7 @@
 use Rattle.std.specs.Prelude.{List, ◌||◌, ℕ, ◌+◌, ◌-◌, ◌*◌, ltb, eqb, Float, set, replicate, length}
 use Rattle.std.specs.Float.Ieee
 use Rattle.std.specs.Float.{binary64}
-use Rattle.loops.specs.Choice.{if◌then◌else◌}
+use Rattle.loops.specs.Choice.{when◌then◌else◌}
 use Rattle.loops.specs.Loop.{loop}
 use Rattle.loops.specs.Cell.{at}
 use Rattle.loops.specs.Refusal.{Outcome, gives, refuses}
@@ -28,11 +28,11 @@ abbrev 4·5 : Float
 
 unfoldable pub order_of : Float → ℕ
 order_of mark =
-    if Ieee.is_nan mark then 0 else
-    if Ieee.lt mark 1·5 then 1 else
-    if Ieee.lt mark 2·5 then 2 else
-    if Ieee.lt mark 3·5 then 3 else
-    if Ieee.lt mark 4·5 then 4 else 5
+    when Ieee.is_nan mark then 0 else
+    when Ieee.lt mark 1·5 then 1 else
+    when Ieee.lt mark 2·5 then 2 else
+    when Ieee.lt mark 3·5 then 3 else
+    when Ieee.lt mark 4·5 then 4 else 5
 
 -- ---- the products of the shifted factors
 
@@ -46,7 +46,7 @@ x_factor xi x_new h k = (xi ⊖ t_shift x_new h k) ⊘ (h ⊗ (float k ⊕ one))
 
 -- p[0] = x_factors[0], p[k] = p[k - 1] * x_factors[k]
 unfoldable pub product_at : List Float → ℕ → Float → Float
-product_at p k factor = if eqb k 0 then factor else at p (k - 1) ⊗ factor
+product_at p k factor = when eqb k 0 then factor else at p (k - 1) ⊗ factor
 
 unfoldable pub products_turn : Float → Float → Float → ℕ → List Float → List Float
 products_turn xi x_new h k p = set p k (product_at p k (x_factor xi x_new h k))
@@ -80,12 +80,12 @@ pub data Interpolates : Type 0 where
 
 unfoldable pub values_at : Float → List Float → List Float → Float → Float → List Float
 values_at xi yi cont xold h =
-    if Ieee.eq h +0 || eqb (length yi) 0 then yi else
+    when Ieee.eq h +0 || eqb (length yi) 0 then yi else
     let order = order_of (at cont 6) in
     evaluated cont (products xi (xold ⊕ h) h order) order yi
 
 unfoldable pub interpolation : Float → List Float → List Float → Float → Float → Interpolates
 interpolation xi yi cont xold h =
-    if ltb max_n (length yi) then says (refuses 1) yi else
-    if eqb (length cont) (7 * length yi) then says (gives tt) (values_at xi yi cont xold h) else
+    when ltb max_n (length yi) then says (refuses 1) yi else
+    when eqb (length cont) (7 * length yi) then says (gives tt) (values_at xi yi cont xold h) else
     says (refuses 13) yi

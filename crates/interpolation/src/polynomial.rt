@@ -2,7 +2,7 @@
 ghost use Rattle.std.specs.Prelude.{◌≡◌, ◌+◌, ◌*◌, ◌≤◌, ◌<◌, length};
 ghost use Rattle.loops.specs.Cell.{at};
 ghost use Rattle.loops.specs.Arithmetic.{◌⊕◌};
-ghost use Rattle.interpolation.specs.Interpolate.{order_of, x_factor, product_at, products as productsOf, sum_at, evaluated, says, said_of, interpolation};
+ghost use Rattle.interpolation.specs.Interpolate.{order_of, x_factor, product_at, products as products_of, sum_at, evaluated, says, said_of, interpolation};
 
 use matrix::MAX_N;
 
@@ -57,7 +57,7 @@ fn product_at(p: &[f64; 5], k: usize, factor: f64) -> f64
 
 fn products(xi: f64, x_new: f64, h: f64, order: usize) -> [f64; 5]
     requires { order ≤ 5 }
-    ensures { result ≡ productsOf xi x_new h order }
+    ensures { result ≡ products_of xi x_new h order }
 {
     let mut p = [0.0; 5];
     for k in 0..order {
@@ -93,7 +93,7 @@ fn evaluate(yi: &mut [f64], cont: &[f64], p: &[f64; 5], order: usize)
 // yi at xi by the polynomial of that order.
 fn values_of_order(yi: &mut [f64], cont: &[f64], xi: f64, x_new: f64, h: f64, order: usize)
     requires { (order ≤ 5) × (length cont.now ≡ 7 * length yi.old) }
-    ensures { yi.new ≡ evaluated cont.now (productsOf xi x_new h order) order yi.old }
+    ensures { yi.new ≡ evaluated cont.now (products_of xi x_new h order) order yi.old }
 {
     let p = products(xi, x_new, h, order);
     evaluate(yi, cont, &p, order);
@@ -103,7 +103,7 @@ fn values_of_order(yi: &mut [f64], cont: &[f64], xi: f64, x_new: f64, h: f64, or
 // With the variable in one call for all orders the whole takes twice the time.
 fn values_by_order(yi: &mut [f64], cont: &[f64], xi: f64, x_new: f64, h: f64, order: usize)
     requires { (order ≤ 5) × (length cont.now ≡ 7 * length yi.old) }
-    ensures { yi.new ≡ evaluated cont.now (productsOf xi x_new h order) order yi.old }
+    ensures { yi.new ≡ evaluated cont.now (products_of xi x_new h order) order yi.old }
 {
     match order {
         5 => values_of_order(yi, cont, xi, x_new, h, 5),

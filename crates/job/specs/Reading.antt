@@ -1,7 +1,7 @@
 -- What a reader takes for a job file, and what it then reads: by the bits of its numbers, and by their values. It refuses by 17 and 1, in
 -- the order of docs/JOB-FORMAT.md; 5 to 8 are the beginning's.
 use Rattle.std.specs.Prelude.{Bool, ◌&&◌, ◌||◌, not, List, [], ◌++◌, ℕ, ◌+◌, ◌*◌, ltb, eqb, length, drop, Float}
-use Rattle.loops.specs.Choice.{if◌then◌else◌}
+use Rattle.loops.specs.Choice.{when◌then◌else◌}
 use Rattle.loops.specs.Refusal.{Outcome, gives, refuses}
 use Rattle.rules.specs.Calls.{Configuration}
 use Rattle.job.specs.declared.packed.Head.{Head}
@@ -37,12 +37,12 @@ form_of s h =
 -- past the head's length
 unfoldable pub head_read : List ℕ → Head → Outcome Form
 head_read s h =
-    if ltb max_n h.n then refuses 1
-    else if accepted_of s h then gives (form_of s h)
+    when ltb max_n h.n then refuses 1
+    else when accepted_of s h then gives (form_of s h)
     else refuses 17
 
 unfoldable pub form_read : List ℕ → Outcome Form
-form_read s = if ltb (length s) head_length then refuses 17 else head_read s (head_of (head_bits s))
+form_read s = when ltb (length s) head_length then refuses 17 else head_read s (head_of (head_bits s))
 
 -- ---- read by bits
 
@@ -76,7 +76,7 @@ abbrev pub ReadOutcome : Type 0
 ReadOutcome = Outcome Job × List Float × List Float
 
 unfoldable pub first_step_of : Form → Setting
-first_step_of f = if f.automatic then Unset else Given (value_of f.first_step)
+first_step_of f = when f.automatic then Unset else Given (value_of f.first_step)
 
 -- the job that a form means
 unfoldable pub job_of : Form → Job

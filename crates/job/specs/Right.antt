@@ -1,7 +1,7 @@
 -- The right side of a job, y' = A y: each sum from +0, upward by column, rounded after each product and each sum.
 use Rattle.std.specs.Prelude.{Bool, true, false, ◌&&◌, List, ℕ, ◌*◌, leb, eqb, length, set, Float}
 use Rattle.loops.specs.Arithmetic.{◌⊕◌, ◌⊗◌, +0}
-use Rattle.loops.specs.Choice.{if◌then◌else◌}
+use Rattle.loops.specs.Choice.{when◌then◌else◌}
 use Rattle.loops.specs.Loop.{loop}
 use Rattle.loops.specs.Cell.{at, cell}
 use Rattle.job.specs.Types.{max_n}
@@ -26,4 +26,4 @@ sized_of n cells places = leb n max_n && (eqb cells (n * n) && eqb places n)
 
 -- whether the sizes agree, and what dy then holds; where they do not, it stays
 unfoldable pub right_side_of : List Float → List Float → List Float → Bool × List Float
-right_side_of a y dy = if sized_of (length y) (length a) (length dy) then (true, right_of a y dy) else (false, dy)
+right_side_of a y dy = when sized_of (length y) (length a) (length dy) then (true, right_of a y dy) else (false, dy)

@@ -2,7 +2,7 @@
 -- the beginning's own 5 to 8, and 25 where the slice is short.
 use Rattle.std.specs.Prelude.{Bool, true, false, ◌&&◌, ◌||◌, not, List, [], ◌∷◌, ◌++◌, ℕ, ◌+◌, ◌*◌, ◌^◌, ltb, eqb, length, drop}
 use Rattle.loops.specs.Arithmetic.{◌⊖◌}
-use Rattle.loops.specs.Choice.{if◌then◌else◌}
+use Rattle.loops.specs.Choice.{when◌then◌else◌}
 use Rattle.loops.specs.Refusal.{Outcome, gives, refuses}
 use Rattle.number.specs.Helpers.{signum_of}
 use Rattle.text.specs.Words.{bytes_of}
@@ -50,7 +50,7 @@ fits_of f places cells =
 -- component a beginning ends at once
 unfoldable pub begins_of : Job → Check
 begins_of job =
-    if eqb job.n 0 then Passed
+    when eqb job.n 0 then Passed
     else tolerances_checked (settings_of job) job.n (signum_of (job.xend ⊖ job.x0)) (Scalar job.rtol) [] (Scalar job.atol) []
 
 -- what a check comes to: the length, or the number of the refusal
@@ -61,8 +61,8 @@ begun_of long (Refuse why) = refuses (number_of why)
 -- how many bytes the job has, or why it is none
 unfoldable pub judged_of : Form → ℕ → ℕ → Outcome ℕ
 judged_of f places cells =
-    if ltb max_n f.n then refuses 1
-    else if fits_of f places cells then begun_of (length_for f.n) (begins_of (job_of f))
+    when ltb max_n f.n then refuses 1
+    else when fits_of f places cells then begun_of (length_for f.n) (begins_of (job_of f))
     else refuses 17
 
 -- ---- the whole
@@ -78,7 +78,7 @@ WriteOutcome = Outcome ℕ × List ℕ
 
 -- the job goes to the first bytes, and what lies after it stays; a refusal writes nothing
 abbrev pub written_over : List ℕ → Outcome ℕ → List ℕ → WriteOutcome
-written_over job (gives long) out = if ltb (length out) long then (refuses 25, out) else (gives long, job ++ drop long out)
+written_over job (gives long) out = when ltb (length out) long then (refuses 25, out) else (gives long, job ++ drop long out)
 written_over job (refuses number) out = (refuses number, out)
 
 unfoldable pub write_of : Form → List ℕ → List ℕ → List ℕ → WriteOutcome

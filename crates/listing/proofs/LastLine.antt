@@ -12,9 +12,9 @@ use Rattle.rules.specs.Begin.{ask_first, begin_run}
 use Rattle.rules.specs.Calls.{Configuration, direction, beginning, going_on, size}
 use Rattle.rules.specs.History.{Exchange, begins, goes_on, is_refused_call, tally, start_notices}
 use Rattle.rules.specs.Known.{Arrived, told_y, last_told_x, last_told_y, leaves}
-use Rattle.rules.specs.laws.CallLaws.{beginning_cases}
-use Rattle.rules.specs.laws.ExchangeLaws.{Kept, idle, works, exchange_kept}
-use Rattle.rules.specs.promises.EndMeans.{an_end_has_a_start, only_the_last_ends, y_is_told}
+use Rattle.rules.proofs.laws.CallLaws.{beginning_cases}
+use Rattle.rules.proofs.laws.ExchangeLaws.{Kept, idle, works, exchange_kept}
+use Rattle.rules.proofs.promises.EndMeans.{an_end_has_a_start, only_the_last_ends, y_is_told}
 use Rattle.listing.specs.Types.{Answer, Derivative, Jacobian, Start, Step, End, Refused, Steps, Evals, Run, Turn, Job}
 use Rattle.listing.specs.Printed.{answer_line, reading, printed}
 use Rattle.listing.specs.Telling.{lines_of, Ours, Ran}

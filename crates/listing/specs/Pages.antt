@@ -1,7 +1,7 @@
 -- A listing, page by page: what is due goes from call to call by value, and each page takes as many whole lines as it has room for.
 -- That the pages, one after another, are the whole output is in promises/PagesJoin.antt, that they come to their end in PagesEnd.antt.
 use Rattle.std.specs.Prelude.{Bool, true, false, List, ℕ, zero, suc, ◌-◌, ◌^◌, take, Float}
-use Rattle.loops.specs.Choice.{if◌then◌else◌}
+use Rattle.loops.specs.Choice.{when◌then◌else◌}
 use Rattle.loops.specs.Refusal.{gives, refuses}
 use Rattle.text.specs.declared.page.Place.TheVariants.{At, Full}
 use Rattle.text.specs.Page.{Page as Put, puts}
@@ -43,7 +43,7 @@ due_after g = after (due_of g.is) g.ws g.q
 
 -- a run's beginning, where its matrix was read to b
 abbrev pub begun_with : After Turn → List Float → List Float → After Listing × List Float
-begun_with g b a = (due_after g, if is_question_or_notice g.is.answer then b else a)
+begun_with g b a = (due_after g, when is_question_or_notice g.is.answer then b else a)
 
 abbrev pub opened_from : ReadOutcome → List Float → List Float → List Float → After Listing × List Float
 opened_from (gives job, y0, b) a ws q = begun_with (beginning (configuration_of job (take job.n y0)) ws q) b a
@@ -66,7 +66,7 @@ turn_of s = after s.is.turn s.ws s.q
 
 -- past the line of an answer: the reply to it, or the listing's end
 unfoldable pub onward : List Float → After Turn → ℕ → After Sheet
-onward a g length = if is_question_or_notice g.is.answer then sheet_of (replied a g) length Not else sheet_of g length AtEnd
+onward a g length = when is_question_or_notice g.is.answer then sheet_of (replied a g) length Not else sheet_of g length AtEnd
 
 -- by whether the line was put: where it has no room it stays due
 abbrev pub answered_at : List Float → After Turn → ℕ → Put → UnderWay
@@ -84,7 +84,7 @@ goes_on AtEnd = false
 -- at most k answers
 unfoldable pub filled : ℕ → List Float → UnderWay → UnderWay
 filled zero a u = u
-filled (suc k) a u = if goes_on u.0.is.stop then filled k a (answered a u) else u
+filled (suc k) a u = when goes_on u.0.is.stop then filled k a (answered a u) else u
 
 -- more answers than any run has
 abbrev pub enough : ℕ

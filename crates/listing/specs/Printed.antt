@@ -2,7 +2,7 @@
 -- refusal, and so does a job that the solver refuses to begin; any other prints the lines of its run, up to the end's.
 use Rattle.std.specs.Prelude.{List, [], ◌++◌, ℕ, zero, suc, ◌*◌, take, replicate, Float}
 use Rattle.loops.specs.Arithmetic.{+0}
-use Rattle.loops.specs.Choice.{if◌then◌else◌}
+use Rattle.loops.specs.Choice.{when◌then◌else◌}
 use Rattle.loops.specs.Refusal.{gives, refuses}
 use Rattle.matrix.specs.Size.{max_n}
 use Rattle.rules.specs.Refusals.{number_of}
@@ -10,7 +10,7 @@ use Rattle.rules.specs.Answers.{is_question_or_notice}
 use Rattle.rules.specs.Places.{need}
 use Rattle.rules.specs.State.{After}
 use Rattle.rules.specs.Calls.{Configuration, beginning, size}
-use Rattle.rules.specs.promises.RunEnds.{most}
+use Rattle.rules.specs.Bounds.{most}
 use Rattle.lines.specs.Lines.{start_line, step_line, end_line, refusal_line}
 use Rattle.job.specs.Reading.{ReadOutcome, read_of, configuration_of}
 use Rattle.listing.specs.Types.{Answer, Derivative, Jacobian, Start, Step, End, Refused, Evals, Steps, Turn}
@@ -33,7 +33,7 @@ line_of g = let p = g.is.run.at in answer_line g.is.answer (take (size g) g.q) p
 -- the lines from an answer on, of at most k answers: its own, then those that follow the reply to it
 unfoldable pub lines_from : ℕ → List Float → After Turn → List ℕ
 lines_from zero a g = []
-lines_from (suc k) a g = line_of g ++ (if is_question_or_notice g.is.answer then lines_from k a (replied a g) else [])
+lines_from (suc k) a g = line_of g ++ (when is_question_or_notice g.is.answer then lines_from k a (replied a g) else [])
 
 -- ---- a file's
 

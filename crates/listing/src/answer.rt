@@ -1,6 +1,6 @@
 // The line of an answer: one for a notice, for the end and for a refusal, none for a question.
 ghost use Rattle.std.specs.Prelude.{◌≡◌, ◌≤◌, ltb, length, take};
-ghost use Rattle.loops.specs.Choice.{if◌then◌else◌};
+ghost use Rattle.loops.specs.Choice.{when◌then◌else◌};
 ghost use Rattle.text.specs.declared.page.Place.TheVariants.{At};
 ghost use Rattle.text.specs.Page.{puts};
 ghost use Rattle.listing.specs.Printed.{answer_line};
@@ -36,7 +36,7 @@ pub(crate) fn answer_line(out: &mut [u8], at: usize, turn: Turn, q: &[f64]) -> P
 
 // The lesser: a forged state may say more components than the slice has places.
 fn within(n: usize, len: usize) -> usize
-    ensures { result ≡ (if ltb n len then n else len) }
+    ensures { result ≡ (when ltb n len then n else len) }
 {
     if n < len { n } else { len }
 }

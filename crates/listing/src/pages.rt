@@ -7,7 +7,7 @@ ghost use Rattle.lines.specs.Lines.{refusal_line};
 ghost use Rattle.rules.specs.State.{after};
 ghost use Rattle.listing.specs.declared.pages.Stop.TheVariants.{Not};
 ghost use Rattle.listing.specs.Pages.{over_of, page_of, goes_on, enough, sheet_of, given_of, refused_at, paged_of, next_page};
-ghost use Rattle.listing.specs.Pages.{onward as onwardOf, answered as answeredOf, filled as filledOf};
+ghost use Rattle.listing.specs.Pages.{onward as onward_of, answered as answered_of, filled as filled_of};
 
 use crate::answer::answer_line;
 use crate::opening::{Listing, QUESTION, Said, WORKSPACE, due};
@@ -97,7 +97,7 @@ fn paged(
     q: &mut [f64; QUESTION],
     out: &mut [u8],
 ) -> Page
-    ensures { (after result ws.new q.new, out.new) ≡ paged_of (filledOf enough a.now (sheet_of (after turn ws.old q.old) 0 Not, out.old)) }
+    ensures { (after result ws.new q.new, out.new) ≡ paged_of (filled_of enough a.now (sheet_of (after turn ws.old q.old) 0 Not, out.old)) }
 {
     given(filled(turn, a, ws, q, out))
 }
@@ -105,7 +105,7 @@ fn paged(
 // Answer by answer, until a line has no room or the listing ends.
 fn filled(turn: Turn, a: &[f64], ws: &mut [f64], q: &mut [f64], out: &mut [u8]) -> Sheet
     requires { (length a.now ≡ max_n * max_n) × (length q.old ≡ 8 * max_n) }
-    ensures { (after result ws.new q.new, out.new) ≡ filledOf enough a.now (sheet_of (after turn ws.old q.old) 0 Not, out.old) }
+    ensures { (after result ws.new q.new, out.new) ≡ filled_of enough a.now (sheet_of (after turn ws.old q.old) 0 Not, out.old) }
 {
     let mut values = [0.0f64; CELLS];
     let mut s = Sheet {
@@ -142,7 +142,7 @@ fn answered(
     out: &mut [u8],
 ) -> Sheet
     requires { (s.length ≤ length out.old) × ((length a.now ≡ max_n * max_n) × ((length values.old ≡ max_n * max_n) × (length q.old ≡ 8 * max_n))) }
-    ensures { (after result ws.new q.new, out.new) ≡ answeredOf a.now (after s ws.old q.old, out.old) }
+    ensures { (after result ws.new q.new, out.new) ≡ answered_of a.now (after s ws.old q.old, out.old) }
 {
     let turn = s.turn;
     let length = s.length;
@@ -166,7 +166,7 @@ fn onward(
     q: &mut [f64],
 ) -> Sheet
     requires { (length a.now ≡ max_n * max_n) × ((length values.old ≡ max_n * max_n) × (length q.old ≡ 8 * max_n)) }
-    ensures { after result ws.new q.new ≡ onwardOf a.now (after turn ws.old q.old) next }
+    ensures { after result ws.new q.new ≡ onward_of a.now (after turn ws.old q.old) next }
 {
     let answer = turn.answer;
     if !waits(answer) {

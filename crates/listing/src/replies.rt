@@ -4,7 +4,7 @@ ghost use Rattle.matrix.specs.Size.{max_n};
 ghost use Rattle.rules.specs.Answers.{is_question_or_notice};
 ghost use Rattle.rules.specs.State.{after};
 ghost use Rattle.listing.specs.Replies.{reply_to, values_for};
-ghost use Rattle.listing.specs.Replies.{replied as repliedOf};
+ghost use Rattle.listing.specs.Replies.{replied as replied_of};
 
 use bdf::go_on;
 use bdf::types::{Answer, Reply, Turn};
@@ -97,7 +97,7 @@ pub(crate) fn replied(
     q: &mut [f64],
 ) -> Turn
     requires { (length a.now ≡ max_n * max_n) × ((length values.old ≡ max_n * max_n) × (length q.old ≡ 8 * max_n)) }
-    ensures { after result ws.new q.new ≡ repliedOf a.now (after turn ws.old q.old) }
+    ensures { after result ws.new q.new ≡ replied_of a.now (after turn ws.old q.old) }
 {
     let answer = turn.answer;
     let run = turn.run;

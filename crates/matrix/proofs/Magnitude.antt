@@ -7,7 +7,7 @@ use native.Mathlib.Omega.{arith}
 use borrow.Author.Tests.{ltb-false, le-ltb}
 use lib.IntN.{ℤ}
 use lib.Ieee.{Float, nan, inf, fin, lt, neg, below, up, down, of_bits, of_fields, odd}
-use Rattle.loops.specs.Choice.{if◌then◌else◌}
+use Rattle.loops.specs.Choice.{when◌then◌else◌}
 use Rattle.loops.specs.laws.ChoiceLaws.{either}
 use Rattle.loops.specs.Arithmetic.{+0}
 use Rattle.number.specs.Helpers.{abs_of}
@@ -43,7 +43,7 @@ unfolding lt of_bits of_fields odd
 no_magnitude m e f = omega (arith, ltb-false 0 (m * up e * 1 + 0 * down e) f, mul-one (m * up e), zero-mul (down e))
 
 magnitude_alike : (x : Float) → Like (magnitude_of x) (abs_of x)
-unfolding magnitude_of abs_of if◌then◌else◌ lt neg of_bits of_fields odd
+unfolding magnitude_of abs_of when◌then◌else◌ lt neg of_bits of_fields odd
 magnitude_alike nan = λ z. (refl, refl)
 magnitude_alike (inf true) = λ z. (refl, refl)
 magnitude_alike (inf false) = λ z. (refl, refl)

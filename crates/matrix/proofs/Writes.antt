@@ -10,7 +10,7 @@ use native.Mathlib.Omega.{arith}
 use lib.ListN.{set}
 use lib.Seq.{set_comm, get_or-set_other}
 use lib.Ieee.{Float, nan}
-use Rattle.loops.specs.Choice.{if◌then◌else◌}
+use Rattle.loops.specs.Choice.{when◌then◌else◌}
 use Rattle.loops.specs.Cell.{at}
 use Rattle.loops.specs.laws.Order.{Commute}
 
@@ -46,8 +46,8 @@ exchange_commutes p q r v nq nr bq br s =
     (set_comm (set s q (at s r)) p r (v s) (at s q) nr)
 
 -- a step that is done only where a test fails
-pub choice_commutes : (b : Bool) (f g : List Float → List Float) → Commute f g → Commute (λ s. if b then s else f s) g
-unfolding if◌then◌else◌
+pub choice_commutes : (b : Bool) (f g : List Float → List Float) → Commute f g → Commute (λ s. when b then s else f s) g
+unfolding when◌then◌else◌
 choice_commutes true f g c s = refl
 choice_commutes false f g c s = c s
 

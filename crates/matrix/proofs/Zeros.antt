@@ -1,12 +1,11 @@
 -- The zeros with which a row ends: what writes below the row leaves them, and an elimination need not go there.
-use mathlib.Core.Path.{◌≡◌, refl, sym, ap, ◌∙◌}
+use mathlib.Core.Path.{◌≡◌, sym, ap, ◌∙◌}
 use mathlib.Core.Bool.{false}
 use mathlib.Core.List.{List}
-use Prim.Native.Nat.{ℕ, zero, suc, ◌+◌, ◌-◌, ◌*◌, ◌≤◌, ◌<◌}
+use Prim.Native.Nat.{ℕ, zero, suc, ◌+◌, ◌-◌, ◌*◌, ◌<◌}
 use native.Mathlib.Omega.{arith}
 use lib.Seq.{get_or-set_other, set-get_or}
 use lib.Ieee.{Float, nan, ne}
-use Rattle.loops.specs.Choice.{if◌then◌else◌}
 use Rattle.loops.specs.laws.ChoiceLaws.{when_false}
 use Rattle.loops.specs.Cell.{cell, stored}
 use Rattle.loops.specs.Loop.{loop}

@@ -2,7 +2,7 @@
 -- The Rust's own case n = 1 is its last line alone, since both loops are then empty; so is the definition's.
 use Rattle.std.specs.Prelude.{List, Bool, true, ◌&&◌, ℕ, ◌+◌, ◌-◌, ◌<◌, length, get_or, set, ltb, eqb, Float}
 use Rattle.std.specs.Float.Ieee
-use Rattle.loops.specs.Choice.{if◌then◌else◌}
+use Rattle.loops.specs.Choice.{when◌then◌else◌}
 use Rattle.loops.specs.Loop.{loop}
 use Rattle.loops.specs.Cell.{at, cell}
 use Rattle.loops.specs.Refusal.{Outcome, gives, refuses}
@@ -78,4 +78,4 @@ solved_of n a ip b = divided_of n a 0 (loop 1 n (back_turn n a) (loop 0 (n - 1) 
 unfoldable pub lin_solve_of : List Float → List Float → List ℕ → SolveOutcome
 lin_solve_of a b ip =
     let n = length ip in
-    if sized_of n (length a) && eqb (length b) n then (if inside_of n ip then (gives tt, solved_of n a ip b) else (refuses 16, b)) else (refuses 14, b)
+    when sized_of n (length a) && eqb (length b) n then (when inside_of n ip then (gives tt, solved_of n a ip b) else (refuses 16, b)) else (refuses 14, b)

@@ -3,7 +3,7 @@
 -- with their sign turned, each where it was made: a later exchange does not move it. ip[k] is the row exchanged with row k.
 use Rattle.std.specs.Prelude.{List, ℕ, zero, suc, ◌+◌, ◌-◌, length, set, eqb, Float}
 use Rattle.std.specs.Float.Ieee
-use Rattle.loops.specs.Choice.{if◌then◌else◌}
+use Rattle.loops.specs.Choice.{when◌then◌else◌}
 use Rattle.loops.specs.Loop.{loop}
 use Rattle.loops.specs.Cell.{cell, stored}
 use Rattle.loops.specs.Refusal.{Outcome, gives, refuses}
@@ -28,7 +28,7 @@ factoring_of Singular = refuses 15
 -- `if val > max_val { max_val = val; m = i; }`, the state being m and max_val. No comparison with a NaN is true:
 -- a NaN is never taken, and one that stands on the diagonal is never beaten.
 unfoldable pub pivot_turn : ℕ → List Float → ℕ → ℕ → ℕ × Float → ℕ × Float
-pivot_turn n a k i best = if Ieee.lt best.1 (abs_of (cell n a i k)) then (i, abs_of (cell n a i k)) else best
+pivot_turn n a k i best = when Ieee.lt best.1 (abs_of (cell n a i k)) then (i, abs_of (cell n a i k)) else best
 
 unfoldable pub pivot_of : ℕ → List Float → ℕ → ℕ
 pivot_of n a k = (loop (k + 1) n (pivot_turn n a k) (k, abs_of (cell n a k k))).0
@@ -37,7 +37,7 @@ pivot_of n a k = (loop (k + 1) n (pivot_turn n a k) (k, abs_of (cell n a k k))).
 
 -- `if m != k { let tmp = a[(m, j)]; a[(m, j)] = a[(k, j)]; a[(k, j)] = tmp; }`
 unfoldable pub exchanged_of : ℕ → ℕ → ℕ → ℕ → List Float → List Float
-exchanged_of n m k j a = if eqb m k then a else stored n (stored n a m j (cell n a k j)) k j (cell n a m j)
+exchanged_of n m k j a = when eqb m k then a else stored n (stored n a m j (cell n a k j)) k j (cell n a m j)
 
 -- `a[(i, k)] = -a[(i, k)] * t`
 unfoldable pub scale_turn : ℕ → ℕ → Float → ℕ → List Float → List Float
@@ -52,7 +52,7 @@ unfoldable pub column_turn : ℕ → ℕ → ℕ → ℕ → List Float → List
 column_turn n m k j a =
     let tj = cell n a m j in
     let b = exchanged_of n m k j a in
-    if Ieee.ne tj +0 then loop (k + 1) n (eliminate_turn n k j tj) b else b
+    when Ieee.ne tj +0 then loop (k + 1) n (eliminate_turn n k j tj) b else b
 
 -- Stage k with the pivot in row m: exchange in column k, scale that column, then the columns to its right.
 unfoldable pub stage_of : ℕ → ℕ → ℕ → List Float → List Float
@@ -64,7 +64,7 @@ stage_of n m k a =
 
 -- what the last test, of the last diagonal element, says
 unfoldable pub last_of : ℕ → List Float → List ℕ → LuOutcome
-last_of n a ip = if Ieee.eq (cell n a (n - 1) (n - 1)) +0 then (refuses 15, a, ip) else (gives tt, a, ip)
+last_of n a ip = when Ieee.eq (cell n a (n - 1) (n - 1)) +0 then (refuses 15, a, ip) else (gives tt, a, ip)
 
 -- `for k in .. n - 1`, from k on, with `left` stages to go: ip[k] is written before the pivot is tested
 unfoldable pub stages_of : ℕ → ℕ → ℕ → List Float → List ℕ → LuOutcome
@@ -72,15 +72,15 @@ unfolding last_of
 stages_of n zero k a ip = last_of n a ip
 stages_of n (suc left) k a ip =
     let m = pivot_of n a k in
-    if Ieee.eq (cell n a m k) +0 then (refuses 15, a, set ip k m) else stages_of n left (k + 1) (stage_of n m k a) (set ip k m)
+    when Ieee.eq (cell n a m k) +0 then (refuses 15, a, set ip k m) else stages_of n left (k + 1) (stage_of n m k a) (set ip k m)
 
 -- n = 1: the one number is its own factor
 unfoldable pub single_of : List Float → List ℕ → LuOutcome
-single_of a ip = if Ieee.eq (cell 1 a 0 0) +0 then (refuses 15, a, ip) else (gives tt, a, set ip 0 0)
+single_of a ip = when Ieee.eq (cell 1 a 0 0) +0 then (refuses 15, a, ip) else (gives tt, a, set ip 0 0)
 
 -- `lu_decomp(a, ip)`, with n the length of ip. Refuses 14 where n is 0 or too large or `a` is not n by n, and 15 where a
 -- pivot is zero; the stages done before stay, and so does the failing stage's ip[k].
 unfoldable pub lu_decomp_of : List Float → List ℕ → LuOutcome
 lu_decomp_of a ip =
     let n = length ip in
-    if sized_of n (length a) then (if eqb n 1 then single_of a ip else stages_of n (n - 1) 0 a ip) else (refuses 14, a, ip)
+    when sized_of n (length a) then (when eqb n 1 then single_of a ip else stages_of n (n - 1) 0 a ip) else (refuses 14, a, ip)

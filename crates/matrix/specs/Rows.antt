@@ -2,7 +2,7 @@
 -- on at once. It gives what `stage_of` gives, by columns (proofs/Rows.antt); no public promise rests on the words of this file.
 use Rattle.std.specs.Prelude.{◌≡◌, false, List, ℕ, ◌+◌, ◌≤◌, ◌<◌, Float}
 use Rattle.std.specs.Float.Ieee.{ne}
-use Rattle.loops.specs.Choice.{if◌then◌else◌}
+use Rattle.loops.specs.Choice.{when◌then◌else◌}
 use Rattle.loops.specs.Loop.{loop}
 use Rattle.loops.specs.Cell.{cell, stored}
 use Rattle.loops.specs.Arithmetic.{◌⊕◌, ◌⊗◌, ◌⊘◌, +0, one}
@@ -10,7 +10,7 @@ use Rattle.matrix.specs.Lu.{exchanged_of, scale_turn}
 
 -- x + l * t, and x itself where t is zero: a product with an infinity or a NaN in l must not come in
 unfoldable pub added_of : Float → Float → Float → Float
-added_of x l t = if ne t +0 then x ⊕ l ⊗ t else x
+added_of x l t = when ne t +0 then x ⊕ l ⊗ t else x
 
 -- `a[(i, j)] += a[(i, k)] * a[(k, j)]`, unless a[(k, j)] is zero
 unfoldable pub cell_turn : ℕ → ℕ → ℕ → ℕ → List Float → List Float

@@ -2,7 +2,7 @@
 use Rattle.std.specs.Prelude.{false, pos, Float}
 use Rattle.std.specs.Float.{nan, inf, fin}
 use Rattle.std.specs.Float.Ieee.{lt, ne}
-use Rattle.loops.specs.Choice.{if◌then◌else◌}
+use Rattle.loops.specs.Choice.{when◌then◌else◌}
 
 -- the magnitude: the sign cleared, -0's too
 unfoldable pub abs_of : Float → Float
@@ -18,8 +18,8 @@ signum_of (fin s m e) = fin s 1 (pos 0)
 
 -- the smaller; a NaN is passed over, and of two zeros the first is given
 unfoldable pub min_of : Float → Float → Float
-min_of x y = if ne x x then y else if lt y x then y else x
+min_of x y = when ne x x then y else when lt y x then y else x
 
 -- the larger; a NaN is passed over, and of two zeros the first is given
 unfoldable pub max_of : Float → Float → Float
-max_of x y = if ne x x then y else if lt x y then y else x
+max_of x y = when ne x x then y else when lt x y then y else x

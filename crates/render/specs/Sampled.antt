@@ -1,7 +1,7 @@
 -- One call of the renderer: what is said, the place moved on, and the slice with the samples.
 use Rattle.std.specs.Prelude.{Bool, true, false, ◌&&◌, ◌||◌, not, List, ℕ, ◌+◌, ◌-◌, ◌*◌, ◌/◌, ◌^◌, min, ltb, eqb, Float, length}
 use Rattle.std.specs.Float.Ieee
-use Rattle.loops.specs.Choice.{if◌then◌else◌}
+use Rattle.loops.specs.Choice.{when◌then◌else◌}
 use Rattle.loops.specs.Loop.{loop}
 use Rattle.loops.specs.Part.{over}
 use Rattle.loops.specs.Refusal.{Outcome, gives, refuses}
@@ -30,7 +30,7 @@ placed_at t k = record { next = k; begun = true; «open» = not (past t.new k); 
 -- ended
 abbrev pub goes_on : Grid → Notice → Bool
 goes_on g t =
-    if g.«open» then Ieee.eq t.start g.start && Ieee.eq t.new g.end && Ieee.eq t.h g.h else
+    when g.«open» then Ieee.eq t.start g.start && Ieee.eq t.new g.end && Ieee.eq t.h g.h else
     Ieee.eq t.start g.end
 
 abbrev pub follows : Grid → Notice → Bool
@@ -44,11 +44,11 @@ proper t = Ieee.lt +0 t.h && within t.start && within t.new
 
 -- the first k that a call may write: on a first call the least whose time is not below x0
 abbrev pub due_from : Grid → Notice → ℕ
-due_from g t = if g.begun then g.next else first_from t.start
+due_from g t = when g.begun then g.next else first_from t.start
 
 -- how many samples of n numbers have room; without components a sample has no numbers, and there is room for every k
 abbrev pub room_for : ℕ → ℕ → ℕ
-room_for n len = if eqb n 0 then 2 ^ 32 else len / n
+room_for n len = when eqb n 0 then 2 ^ 32 else len / n
 
 -- how many are written: those at or below the new x, as many as have room
 abbrev pub count_of : Grid → Notice → ℕ → ℕ → ℕ
@@ -87,10 +87,10 @@ written g t n cont out =
 
 unfoldable pub sampled : Grid → Notice → ℕ → List Float → List Float → Renders
 sampled g t n cont out =
-    if ltb max_n n then renders (refuses 1) g out else
-    if not (eqb (length cont) (7 * n)) then renders (refuses 13) g out else
-    if not (follows g t) then renders (refuses 18) g out else
-    if not (proper t) then renders (refuses 19) g out else
+    when ltb max_n n then renders (refuses 1) g out else
+    when not (eqb (length cont) (7 * n)) then renders (refuses 13) g out else
+    when not (follows g t) then renders (refuses 18) g out else
+    when not (proper t) then renders (refuses 19) g out else
     written g t n cont out
 
 -- how many lie from k on before the k `end`, `room` at most

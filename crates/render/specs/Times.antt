@@ -2,7 +2,7 @@
 use Rattle.std.specs.Prelude.{Bool, ◌&&◌, not, ℕ, zero, suc, ◌+◌, ◌-◌, ◌^◌, Float}
 use Rattle.std.specs.Float.Ieee
 use Rattle.std.specs.Float.{binary64}
-use Rattle.loops.specs.Choice.{if◌then◌else◌}
+use Rattle.loops.specs.Choice.{when◌then◌else◌}
 use Rattle.loops.specs.Arithmetic.{◌⊘◌, float}
 
 -- 48000.0, and 80000.0 with either sign
@@ -33,7 +33,7 @@ within x = Ieee.le -80000·0 x && Ieee.le x 80000·0
 -- by halving: how many of the first 2 ^ f - 1 from lo on pass a test that, once failed, is failed for good
 unfoldable pub sought : (ℕ → Bool) → ℕ → ℕ → ℕ
 sought p zero lo = lo
-sought p (suc f) lo = if p (lo + (2 ^ f - 1)) then sought p f (lo + 2 ^ f) else sought p f lo
+sought p (suc f) lo = when p (lo + (2 ^ f - 1)) then sought p f (lo + 2 ^ f) else sought p f lo
 
 -- the least k whose time is not below x
 unfoldable pub first_from : Float → ℕ
@@ -48,4 +48,4 @@ first_past x = sought (λ k. not (past x k)) 32 0
 -- of m from k on, how many lie at or below x before the first that does not
 unfoldable pub counted : Float → ℕ → ℕ → ℕ
 counted x zero k = 0
-counted x (suc m) k = if past x k then 0 else suc (counted x m (k + 1))
+counted x (suc m) k = when past x k then 0 else suc (counted x m (k + 1))

@@ -3,7 +3,7 @@ ghost use Rattle.std.specs.Prelude.{◌≡◌, true, ◌*◌, ◌≤◌, ◌<◌
 ghost use Rattle.matrix.specs.Size.{max_n};
 ghost use Rattle.render.specs.Times.{within, first_past};
 ghost use Rattle.render.specs.Sampled.{room_for, due_from, placed_at, renders, said_of, written, sampled};
-ghost use Rattle.render.specs.Sampled.{follows as followsOf, goes_on, proper as properOf, due};
+ghost use Rattle.render.specs.Sampled.{follows as follows_of, goes_on, proper as proper_of, due};
 
 use crate::grid::{Grid, Notice, Rendering};
 use crate::rows::write_rows;
@@ -36,7 +36,7 @@ fn goes_on(grid: Grid, notice: Notice) -> bool
 }
 
 fn follows(grid: Grid, notice: Notice) -> bool
-    ensures { result ≡ followsOf grid notice }
+    ensures { result ≡ follows_of grid notice }
 {
     if !grid.begun {
         return true;
@@ -54,7 +54,7 @@ fn is_within(x: f64) -> bool
 }
 
 fn proper(notice: Notice) -> bool
-    ensures { result ≡ properOf notice }
+    ensures { result ≡ proper_of notice }
 {
     if !(0.0 < notice.h) {
         return false;
@@ -98,7 +98,7 @@ fn count_due(past: u64, room: usize, k: u64) -> usize
 
 // Past the checks: the samples that have room are written, and the place moves on behind them.
 fn write(grid: Grid, notice: Notice, n: usize, cont: &[f64], out: &mut [f64]) -> Placed
-    requires { (n ≤ max_n) × ((length cont.now ≡ 7 * n) × (properOf notice ≡ true)) }
+    requires { (n ≤ max_n) × ((length cont.now ≡ 7 * n) × (proper_of notice ≡ true)) }
     ensures { renders (said_of result.said) result.grid out.new ≡ written grid notice n cont.now out.old }
 {
     let from = due_from(grid, notice);

@@ -1,9 +1,9 @@
 -- Which patterns are no NaN's: those up to infinity's.
-use mathlib.Core.Path.{◌≡◌, sym, ◌∙◌, subst}
+use mathlib.Core.Path.{sym, ◌∙◌, subst}
 use mathlib.Core.Bool.{Bool, not}
 use Prim.Native.Nat.{ℕ, ◌%◌, ◌^◌, ◌≤◌}
 use native.Mathlib.Nat.{le_trans, mod-le}
-use lib.Dec.{T, ltb}
+use lib.Dec.{T}
 use lib.Ieee.{binary64, nan_bits}
 use lib.Ieee.Bits.{nan_bits_above}
 use borrow.Author.Tests.{le-ltb}

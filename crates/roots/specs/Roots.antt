@@ -5,7 +5,7 @@
 use Rattle.std.specs.Prelude.{Bool, true, false, ◌&&◌, ℕ, zero, suc, ◌+◌, ◌-◌, ◌*◌, ◌/◌, ◌^◌, leb, Float, pos}
 use Rattle.std.specs.Float.{nan, inf, fin, binary64}
 use Rattle.std.specs.Float.Ieee.{of_bits, up, down}
-use Rattle.loops.specs.Choice.{if◌then◌else◌}
+use Rattle.loops.specs.Choice.{when◌then◌else◌}
 use Rattle.loops.specs.Refusal.{Outcome, gives, refuses}
 use Rattle.roots.specs.declared.Root.{Root}
 use Rattle.roots.specs.declared.Root.TheVariants.{Value, KOutside}
@@ -36,7 +36,7 @@ edge b = val (b - 1) + val b
 -- all numbers below one at which it passes
 unfoldable pub greatest : (ℕ → Bool) → ℕ → ℕ → ℕ
 greatest p zero b = b
-greatest p (suc n) b = greatest p n (if p (b + 2 ^ n) then b + 2 ^ n else b)
+greatest p (suc n) b = greatest p n (when p (b + 2 ^ n) then b + 2 ^ n else b)
 
 -- whether the pattern b is no NaN's and its edge lies at or below the k-th root of c / a
 unfoldable pub reaches : ℕ → ℕ → ℕ → ℕ → Bool
@@ -75,4 +75,4 @@ root_said KOutside = refuses 14
 
 unfoldable pub inverse_root_of : ℕ → Float → Outcome Float
 unfolding inverse_root
-inverse_root_of k x = if leb 1 k && leb k 7 then gives (inverse_root k x) else refuses 14
+inverse_root_of k x = when leb 1 k && leb k 7 then gives (inverse_root k x) else refuses 14

@@ -1,7 +1,7 @@
 // Whether m^k * n is at most a power of two, exactly, for an m of 54 bits, an n of 53 and k up to 7. A whole number is fourteen
 // digits to the base 2^31, the lowest first: 434 bits, where such a product has at most 431.
 ghost use Rattle.std.specs.Prelude.{◌≡◌, true, false, ◌*◌, ◌^◌, ◌≤◌, ◌<◌, leb, ltb};
-ghost use Rattle.loops.specs.Choice.{if◌then◌else◌};
+ghost use Rattle.loops.specs.Choice.{when◌then◌else◌};
 ghost use Rattle.roots.specs.Numeral.{numeral, Row, base, room};
 
 const BASE: u64 = 2147483648;
@@ -26,7 +26,7 @@ fn times(a: &mut [u64; 14], m: u64)
 
 // Whether x is at most y at its highest digit, which decides, or is equal there and at most y below it.
 fn not_above(x: u64, y: u64, below: bool) -> bool
-    ensures { result ≡ (if ltb x y then true else if ltb y x then false else below) }
+    ensures { result ≡ (when ltb x y then true else when ltb y x then false else below) }
 {
     if x < y {
         return true;

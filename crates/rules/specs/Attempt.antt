@@ -1,8 +1,8 @@
 -- The main loop's body as far as its first question: the step is fitted between its bounds and to the end, the prediction
 -- made, the matrix factored where it must be, and the first Newton derivative asked.
-use Rattle.std.specs.Prelude.{List, Bool, true, false, not, ◌&&◌, ◌||◌, ℕ, zero, suc, ◌+◌, ◌-◌, ◌*◌, leb, Float}
+use Rattle.std.specs.Prelude.{List, Bool, true, not, ◌&&◌, ◌||◌, ℕ, zero, suc, ◌+◌, ◌-◌, ◌*◌, leb, Float}
 use Rattle.std.specs.Float.Ieee
-use Rattle.loops.specs.Choice.{if◌then◌else◌}
+use Rattle.loops.specs.Choice.{when◌then◌else◌}
 use Rattle.loops.specs.Cell.{at}
 use Rattle.loops.specs.Part.{over}
 use Rattle.number.specs.Helpers.{abs_of, max_of}
@@ -28,12 +28,12 @@ rescaled_d n order factor ws = over (row n (d 0)) (8 * n) (change_d n order fact
 
 -- `if h_try > hmax`
 unfoldable pub to_hmax : ℕ → ℕ → Float → Pace → List Float → Left Pace
-to_hmax n order hmax pace ws = if Ieee.lt hmax pace.h then left (changed hmax) (rescaled_d n order (hmax ⊘ pace.h) ws) else left pace ws
+to_hmax n order hmax pace ws = when Ieee.lt hmax pace.h then left (changed hmax) (rescaled_d n order (hmax ⊘ pace.h) ws) else left pace ws
 
 -- `if h_try < hmin && hmin > 0.0`
 unfoldable pub to_hmin : ℕ → ℕ → Float → Pace → List Float → Left Pace
 to_hmin n order hmin pace ws =
-    if Ieee.lt pace.h hmin && Ieee.lt +0 hmin
+    when Ieee.lt pace.h hmin && Ieee.lt +0 hmin
     then left (changed hmin) (rescaled_d n order (max_of (hmin ⊘ pace.h) one) ws)
     else left pace ws
 
@@ -57,12 +57,12 @@ cut_at_end p ws =
     let step_to_end = abs_of (p.span.xend ⊖ p.x) in
     let factor = step_to_end ⊘ p.pace.h in
     let h = p.pace.h ⊗ factor in
-    if Ieee.eq step_to_end +0 then left AtEnd ws else left (At (changed h) (aim_of p h)) (rescaled_d p.n p.order factor ws)
+    when Ieee.eq step_to_end +0 then left AtEnd ws else left (At (changed h) (aim_of p h)) (rescaled_d p.n p.order factor ws)
 
 unfoldable pub aimed : Progress → List Float → Left Aimed
 aimed p ws =
     let a = aim_of p p.pace.h in
-    if Ieee.lt +0 (p.span.direction ⊗ (a.x_new ⊖ p.span.xend)) then cut_at_end p ws else left (At p.pace a) ws
+    when Ieee.lt +0 (p.span.direction ⊗ (a.x_new ⊖ p.span.xend)) then cut_at_end p ws else left (At p.pace a) ws
 
 -- ---- what an attempt comes to
 
@@ -144,7 +144,7 @@ unfoldable pub refactored : Progress → List Float → List Float → After Tri
 refactored p ws q =
     let f = factored p.n p.aim.c p.pivot ws in
     let s = halved (singular_from p f.is) f.ws in
-    if f.is.ok then newton_start (factored_from p f.is) f.ws q else after (rejected s.is) s.ws q
+    when f.is.ok then newton_start (factored_from p f.is) f.ws q else after (rejected s.is) s.ws q
 
 -- the prediction, its scale and psi
 unfoldable pub predicted_all : ℕ → ℕ → List Float → List Float
@@ -153,12 +153,12 @@ predicted_all n order ws = psied n order (scaled n y_predict (predict n order ws
 unfoldable pub attempt_at : Progress → List Float → List Float → After Tried
 attempt_at p ws q =
     let w = predicted_all p.n p.order ws in
-    if must_factor p then refactored p w q else newton_start p w q
+    when must_factor p then refactored p w q else newton_start p w q
 
 -- the test against stagnation, which ends the run before the attempt is counted
 unfoldable pub unless_stuck : Progress → List Float → List Float → After Tried
 unless_stuck p ws q =
-    if Ieee.eq (p.x ⊕ tenth ⊗ abs_of p.aim.h_signed) p.x
+    when Ieee.eq (p.x ⊕ tenth ⊗ abs_of p.aim.h_signed) p.x
     then after (says (end StepSizeTooSmall p)) ws q
     else attempt_at (total+1 p) ws q
 
@@ -181,8 +181,8 @@ fitted_attempt p ws q =
 -- the body of 'main_loop, with its two tests
 unfoldable pub attempt : Progress → List Float → List Float → After Tried
 attempt p ws q =
-    if leb p.limits.steps p.steps.total then after (says (end NeedLargerNMax p)) ws q
-    else if Ieee.lt p.pace.h min_positive then after (says (end StepSizeTooSmall p)) ws q
+    when leb p.limits.steps p.steps.total then after (says (end NeedLargerNMax p)) ws q
+    else when Ieee.lt p.pace.h min_positive then after (says (end StepSizeTooSmall p)) ws q
     else fitted_attempt p ws q
 
 -- ---- 'main_loop: attempts until one says something
@@ -200,3 +200,7 @@ attempts_left p = (p.limits.steps - p.steps.total) + 1
 
 unfoldable pub main_loop : Progress → List Float → List Float → After Turn
 main_loop p ws q = tries (attempts_left p) p ws q
+
+-- what an attempt leaves to do: the loop again, or nothing
+abbrev pub rest : Tried → List Float → List Float → After Turn
+rest t ws q = onward main_loop t ws q

@@ -2,7 +2,7 @@
 use Rattle.std.specs.Prelude.{List, ◌++◌, Bool, true, false, ℕ, max, ltb, eqb, length, take, drop, replicate, Float}
 use Rattle.std.specs.Float.Ieee
 use Rattle.std.specs.Float.{inf}
-use Rattle.loops.specs.Choice.{if◌then◌else◌}
+use Rattle.loops.specs.Choice.{when◌then◌else◌}
 use Rattle.loops.specs.Loop.{loop}
 use Rattle.number.specs.Helpers.{abs_of, signum_of, min_of, max_of}
 use Rattle.roots.specs.Roots.{sqrt_of}
@@ -40,7 +40,7 @@ derived_tol rtol_min = max_of (ten ⊗ epsilon ⊘ rtol_min) (min_of (sqrt_of rt
 
 -- newton_tol_val
 unfoldable pub newton_tol_val : Setting → Float → Float
-newton_tol_val given rtol_min = let t = or_given given (derived_tol rtol_min) in if Ieee.le t +0 then nano else t
+newton_tol_val given rtol_min = let t = or_given given (derived_tol rtol_min) in when Ieee.le t +0 then nano else t
 
 unfoldable pub span_of : BDF → Float → Float → Float → Span
 span_of s x0 xend rtol_min =
@@ -120,6 +120,6 @@ begin_turn s x0 y0 xend r rs a als Passed ws q = begin_run s x0 y0 xend r rs a a
 unfoldable pub begin_of : BDF → Float → List Float → Float → Tolerance → List Float → Tolerance → List Float → List Float → List Float → After Turn
 begin_of s x0 y0 xend r rs a als ws q =
     let n = length y0 in
-    if ltb max_n n then after (turn (Refused TooManyComponents) Ended nothing) ws q
-    else if eqb n 0 then after (turn (End Success +0) Ended nothing) ws q
+    when ltb max_n n then after (turn (Refused TooManyComponents) Ended nothing) ws q
+    else when eqb n 0 then after (turn (End Success +0) Ended nothing) ws q
     else begin_turn s x0 y0 xend r rs a als (checked s n (signum_of (xend ⊖ x0)) r rs a als (length ws) (length q)) ws q

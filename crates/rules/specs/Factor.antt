@@ -1,5 +1,5 @@
 -- The matrix I - c * J, and its factoring.
-use Rattle.std.specs.Prelude.{List, ◌++◌, Bool, true, false, ℕ, ◌+◌, ◌*◌, take, drop, Float}
+use Rattle.std.specs.Prelude.{List, ◌++◌, Bool, true, false, ℕ, ◌*◌, take, drop, Float}
 use Rattle.std.specs.Float.Ieee
 use Rattle.loops.specs.Loop.{loop}
 use Rattle.loops.specs.Part.{part, over}

@@ -1,6 +1,6 @@
 -- Going on: the checks on what is handed back, in their order, then the run from the reply to its next answer.
 use Rattle.std.specs.Prelude.{List, ◌++◌, Bool, true, false, not, ◌&&◌, ◌||◌, ℕ, ◌+◌, ◌-◌, ◌*◌, leb, ltb, eqb, length, take, drop, get_or, Float}
-use Rattle.loops.specs.Choice.{if◌then◌else◌}
+use Rattle.loops.specs.Choice.{when◌then◌else◌}
 use Rattle.loops.specs.Loop.{loop}
 use Rattle.rules.specs.Types.{Reply, Awaited, Damaged, HasEnded, WrongReply, SliceShort, Progress, Run, Turn, Refused}
 use Rattle.matrix.specs.Size.{max_n}
@@ -51,7 +51,7 @@ damaged_above0 w p =
     (awaits_newton w && leb p.limits.newton p.newton.iters))))
 
 unfoldable pub damaged : Awaited → Progress → Bool
-damaged w p = if ltb max_n p.n then true else if eqb p.n 0 then not (is_ended w) else damaged_above0 w p
+damaged w p = when ltb max_n p.n then true else when eqb p.n 0 then not (is_ended w) else damaged_above0 w p
 
 -- ---- the checks and the whole
 
@@ -59,12 +59,12 @@ damaged w p = if ltb max_n p.n then true else if eqb p.n 0 then not (is_ended w)
 abbrev pub count_checked : Wants → ℕ → ℕ → ℕ → ℕ → Check
 count_checked Unsuited n values room questions = Refuse WrongReply
 count_checked (Count k) n values room questions =
-    if (ltb room (need n) || (ltb questions (8 * n) || ltb values k)) then Refuse SliceShort else Passed
+    when (ltb room (need n) || (ltb questions (8 * n) || ltb values k)) then Refuse SliceShort else Passed
 
 unfoldable pub go_checked : Awaited → Progress → Reply → ℕ → ℕ → ℕ → Check
 go_checked w p r values room questions =
-    if damaged w p then Refuse Damaged
-    else if is_ended w then Refuse HasEnded
+    when damaged w p then Refuse Damaged
+    else when is_ended w then Refuse HasEnded
     else count_checked (wants p.n w r) p.n values room questions
 
 -- the run from the reply to its next answer, on the needed places alone: what lies beyond them stays

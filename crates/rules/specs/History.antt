@@ -1,7 +1,7 @@
 -- A run's history: what a caller is given from the beginning on, whatever is replied. The theorems over whole runs are about it:
 -- `EndMeans`, `Demand3`, `NeverDamaged` and `RunEnds`.
 use Rattle.std.specs.Prelude.{◌≡◌, List, [], ◌∷◌, Bool, true, false, ◌&&◌, ℕ, ◌+◌, ltb, length, Float}
-use Rattle.loops.specs.Choice.{if◌then◌else◌}
+use Rattle.loops.specs.Choice.{when◌then◌else◌}
 use Rattle.rules.specs.Types.{Setting, Unset, Given, Answer, Run, Turn}
 use Rattle.rules.specs.Answers.{is_derivative, is_jacobian, is_start, is_step, is_refused, is_question_or_notice}
 use Rattle.rules.specs.Calls.{Configuration, beginning, Call, going_on}
@@ -61,4 +61,4 @@ is_unset (Given h) = false
 -- 1 where it was asked, else 0: `first_step` is unset, n is above 0, and the history has come past its first two questions, the first
 -- derivative and the first Jacobian
 unfoldable pub automatic_start : Configuration → List Answer → ℕ
-automatic_start c h = if is_unset c.settings.first_step && (ltb 0 (length c.y0) && ltb 2 (length h)) then 1 else 0
+automatic_start c h = when is_unset c.settings.first_step && (ltb 0 (length c.y0) && ltb 2 (length h)) then 1 else 0

@@ -1,6 +1,6 @@
 -- What follows a Newton iteration that converged: the error's norm, and the differences of an accepted step.
 use Rattle.std.specs.Prelude.{List, ℕ, ◌+◌, ◌-◌, ◌*◌, ltb, set, Float}
-use Rattle.loops.specs.Choice.{if◌then◌else◌}
+use Rattle.loops.specs.Choice.{when◌then◌else◌}
 use Rattle.loops.specs.Loop.{loop}
 use Rattle.loops.specs.Arithmetic.{◌⊕◌, ◌⊖◌, ◌⊗◌, ◌⊘◌, float, +0, one}
 use Rattle.rules.specs.Literals.{safety_default, two}
@@ -48,7 +48,7 @@ coefficient n i j = row n cont + (i * 7 + j)
 
 -- cont[base + 1 + k] = if k < order { d[k + 1][i] } else { 0.0 }
 unfoldable pub coeff : ℕ → List Float → ℕ → ℕ → ℕ → Float
-coeff n ws order i k = if ltb k order then get n ws (d (k + 1)) i else +0
+coeff n ws order i k = when ltb k order then get n ws (d (k + 1)) i else +0
 
 unfoldable pub coeff_turn : ℕ → ℕ → ℕ → ℕ → List Float → List Float
 coeff_turn n order i k ws = set ws (coefficient n i (1 + k)) (coeff n ws order i k)

@@ -34,8 +34,8 @@ pub mod GoOn
 pub mod Calls
 pub mod History
 pub mod Known
+pub mod Bounds
 -- ---- guarded and unguarded runs beside each other
 pub mod Beside
 pub mod Guarding
 pub mod laws
-pub mod promises

@@ -1,7 +1,7 @@
 -- One turn of the simplified Newton iteration, from the derivative's reply to its verdict.
 use Rattle.std.specs.Prelude.{List, Bool, true, false, ◌&&◌, ◌||◌, ℕ, ◌+◌, ◌-◌, ◌*◌, leb, ltb, take, Float}
 use Rattle.std.specs.Float.Ieee
-use Rattle.loops.specs.Choice.{if◌then◌else◌}
+use Rattle.loops.specs.Choice.{when◌then◌else◌}
 use Rattle.loops.specs.Loop.{loop}
 use Rattle.loops.specs.Part.{part, over}
 use Rattle.matrix.specs.Linear.{lin_solve_of}
@@ -46,21 +46,21 @@ power x k = loop 0 k (power_turn x) one
 unfoldable pub too_slow : Float → ℕ → Float → Float → Bool
 too_slow tol remaining prev norm =
     let rate = norm ⊘ prev in
-    if Ieee.le one rate then true else Ieee.lt tol (power rate remaining ⊘ (one ⊖ rate) ⊗ norm)
+    when Ieee.le one rate then true else Ieee.lt tol (power rate remaining ⊘ (one ⊖ rate) ⊗ norm)
 
 -- the last test: what is still to come is below the tolerance
 unfoldable pub settled : Float → Float → Float → Bool
 settled tol prev norm =
     let rate = norm ⊘ prev in
-    if Ieee.lt rate one then Ieee.lt (rate ⊘ (one ⊖ rate) ⊗ norm) tol else false
+    when Ieee.lt rate one then Ieee.lt (rate ⊘ (one ⊖ rate) ⊗ norm) tol else false
 
 -- `if let Some(prev) = dy_norm_prev { if prev > 0.0 { .. } }`: there is one from the second iteration on
 abbrev pub follows : ℕ → Float → Bool
 follows iters prev = ltb 0 iters && Ieee.lt +0 prev
 
 unfoldable pub converged : Float → ℕ → Float → Float → Bool
-converged tol iters prev norm = if Ieee.eq norm +0 then true else if follows iters prev then settled tol prev norm else false
+converged tol iters prev norm = when Ieee.eq norm +0 then true else when follows iters prev then settled tol prev norm else false
 
 -- no further iteration: too slow, or the limit m is reached
 unfoldable pub gave_up : Float → ℕ → ℕ → Float → Float → Bool
-gave_up tol m iters prev norm = if follows iters prev then (too_slow tol (m - iters) prev norm || leb m (iters + 1)) else leb m (iters + 1)
+gave_up tol m iters prev norm = when follows iters prev then (too_slow tol (m - iters) prev norm || leb m (iters + 1)) else leb m (iters + 1)

@@ -3,7 +3,7 @@
 use Rattle.std.specs.Prelude.{List, false, ◌&&◌, ℕ, ◌+◌, ◌-◌, ltb, eqb, Float}
 use Rattle.std.specs.Float.Ieee
 use Rattle.std.specs.Float.{inf}
-use Rattle.loops.specs.Choice.{if◌then◌else◌}
+use Rattle.loops.specs.Choice.{when◌then◌else◌}
 use Rattle.loops.specs.Cell.{at}
 use Rattle.number.specs.Helpers.{min_of, max_of}
 use Rattle.roots.specs.Roots.{inverse_root}
@@ -22,11 +22,11 @@ error_at n k v ws = let w = weighed n (at error_consts k) v ws in left (rhs_norm
 
 -- err_m: infinite at order 1
 unfoldable pub err_m : ℕ → ℕ → List Float → Left Float
-err_m n order ws = if ltb 1 order then error_at n (order - 1) (d order) ws else left (inf false) ws
+err_m n order ws = when ltb 1 order then error_at n (order - 1) (d order) ws else left (inf false) ws
 
 -- err_p: infinite at the greatest order
 unfoldable pub err_p : ℕ → ℕ → List Float → Left Float
-err_p n order ws = if ltb order max_order then error_at n (order + 1) (d (order + 2)) ws else left (inf false) ws
+err_p n order ws = when ltb order max_order then error_at n (order + 1) (d (order + 2)) ws else left (inf false) ws
 
 -- factors[idx] = err.powf(-1.0 / (order + idx))
 abbrev pub factor : ℕ → ℕ → Float → Float
@@ -36,14 +36,14 @@ factor order idx err = inverse_root (order + idx) err
 -- the last wins, and a NaN on either side compares as equal.
 unfoldable pub best_of : Float → Float → Float → ℕ
 best_of a b c =
-    if Ieee.lt b a then (if Ieee.lt c a then 0 else 2)
-    else if Ieee.lt c b then 1
+    when Ieee.lt b a then (when Ieee.lt c a then 0 else 2)
+    else when Ieee.lt c b then 1
     else 2
 
 unfoldable pub new_order : ℕ → ℕ → ℕ
 new_order order best =
-    if eqb best 0 && ltb 1 order then order - 1
-    else if eqb best 2 && ltb order max_order then order + 1
+    when eqb best 0 && ltb 1 order then order - 1
+    else when eqb best 2 && ltb order max_order then order + 1
     else order
 
 -- step_factor: (safety * max_factor).min(MAX_FACTOR)

@@ -2,7 +2,7 @@
 use Rattle.std.specs.Prelude.{List, ℕ, ◌+◌, Float}
 use Rattle.std.specs.Float.Ieee
 use Rattle.std.specs.Float.{binary64}
-use Rattle.loops.specs.Choice.{if◌then◌else◌}
+use Rattle.loops.specs.Choice.{when◌then◌else◌}
 use Rattle.loops.specs.Loop.{loop}
 use Rattle.loops.specs.Cell.{at}
 use Rattle.number.specs.Helpers.{abs_of}
@@ -30,7 +30,7 @@ predict n order ws = loop 0 n (predict_turn n order) ws
 
 -- atol[i] + rtol[i] * y[i].abs(), and EPSILON where that is 0
 unfoldable pub scale_of : Float → Float → Float → Float
-scale_of a r v = let s = a ⊕ r ⊗ abs_of v in if Ieee.eq s +0 then epsilon else s
+scale_of a r v = let s = a ⊕ r ⊗ abs_of v in when Ieee.eq s +0 then epsilon else s
 
 -- scale[i], of the state at row v: y_predict before the Newton iteration, y_new after it
 abbrev pub scale_at : ℕ → List Float → ℕ → ℕ → Float

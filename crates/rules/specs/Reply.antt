@@ -1,7 +1,7 @@
 -- A run from one reply to the next answer, by the place in `solve` at which it waited.
-use Rattle.std.specs.Prelude.{List, false, ℕ, ◌+◌, ◌*◌, ltb, eqb, Float}
+use Rattle.std.specs.Prelude.{List, false, ℕ, ◌*◌, ltb, eqb, Float}
 use Rattle.std.specs.Float.Ieee
-use Rattle.loops.specs.Choice.{if◌then◌else◌}
+use Rattle.loops.specs.Choice.{when◌then◌else◌}
 use Rattle.loops.specs.Loop.{loop}
 use Rattle.number.specs.Helpers.{abs_of, min_of, max_of}
 use Rattle.rules.specs.Types.{Progress, Turn, Reply, Awaited, Setting, Unset, Given, Values, Continue, Interrupt, Modified, Derivative, Jacobian, Start, Success, UserInterrupt, FirstDerivative, FirstJacobian, StartDerivative, StartNotice, ModifiedStartDerivative, ModifiedStartJacobian, NewtonDerivative, FailedJacobian, StepNotice, ModifiedStepDerivative, ModifiedStepJacobian, OrderJacobian, Ended}
@@ -94,7 +94,7 @@ unfoldable pub chosen : Progress → Choice → List Float → List Float → Af
 chosen p c ws q =
     let w = rescaled_d p.n c.order c.factor ws in
     let next = with_pace (with_order p c.order) (changed (p.pace.h ⊗ c.factor)) in
-    if eqb c.order p.order then main_loop next w q else ask_jacobian OrderJacobian next w q
+    when eqb c.order p.order then main_loop next w q else ask_jacobian OrderJacobian next w q
 
 unfoldable pub ordered : Progress → List Float → List Float → After Turn
 ordered p ws q =
@@ -105,8 +105,8 @@ ordered p ws q =
 -- after a step's notice: the end, another order, or the next attempt
 unfoldable pub stepped : Progress → List Float → List Float → After Turn
 stepped p ws q =
-    if Ieee.le +0 (p.span.direction ⊗ (p.x ⊖ p.span.xend)) then after (end Success p) ws q
-    else if ltb p.order p.pace.equal_steps then ordered p ws q
+    when Ieee.le +0 (p.span.direction ⊗ (p.x ⊖ p.span.xend)) then after (end Success p) ws q
+    else when ltb p.order p.pace.equal_steps then ordered p ws q
     else main_loop p ws q
 
 -- ---- by the place

@@ -3,7 +3,7 @@
 -- hold +0. D has its row k, one difference of the n components, from k * n on.
 use Rattle.std.specs.Prelude.{List, ℕ, ◌+◌, ◌-◌, ◌*◌, min, Float, set, replicate}
 use Rattle.std.specs.Float.Ieee
-use Rattle.loops.specs.Choice.{if◌then◌else◌}
+use Rattle.loops.specs.Choice.{when◌then◌else◌}
 use Rattle.loops.specs.Loop.{loop}
 use Rattle.loops.specs.Cell.{cell, stored}
 use Rattle.loops.specs.Arithmetic.{◌⊕◌, ◌⊖◌, ◌⊗◌, ◌⊘◌, float, +0, one}
@@ -53,7 +53,7 @@ scaled_turn wide coeff source k i j to = stored wide to i j (cell wide to i j �
 
 -- rows are `wide` apart and have `count` places. A coefficient of 0 is passed over, whatever the source holds
 unfoldable pub add_scaled : ℕ → ℕ → Float → List Float → ℕ → ℕ → List Float → List Float
-add_scaled wide count coeff source k i to = if Ieee.eq coeff +0 then to else loop 0 count (scaled_turn wide coeff source k i) to
+add_scaled wide count coeff source k i to = when Ieee.eq coeff +0 then to else loop 0 count (scaled_turn wide coeff source k i) to
 
 -- ---- matmul
 
@@ -89,4 +89,4 @@ rescaled n order factor d =
 
 -- a factor of exactly 1.0 changes nothing
 unfoldable pub change_d : ℕ → ℕ → Float → List Float → List Float
-change_d n order factor d = if Ieee.eq factor one then d else rescaled n (min order max_order) factor d
+change_d n order factor d = when Ieee.eq factor one then d else rescaled n (min order max_order) factor d

@@ -1,7 +1,7 @@
 -- `hinit`, the automatic starting step, cut where it asks its one derivative, and what `solve` makes of its guess.
 use Rattle.std.specs.Prelude.{List, ◌||◌, ℕ, Float}
 use Rattle.std.specs.Float.Ieee
-use Rattle.loops.specs.Choice.{if◌then◌else◌}
+use Rattle.loops.specs.Choice.{when◌then◌else◌}
 use Rattle.loops.specs.Loop.{loop}
 use Rattle.number.specs.Helpers.{abs_of, signum_of, min_of, max_of}
 use Rattle.roots.specs.Roots.{sqrt_of}
@@ -23,7 +23,7 @@ squares n v ws = loop 0 n (squares_turn n v ws) +0
 -- 1e-6 where a sum is at most 1e-10, else a hundredth of the quotient's root
 unfoldable pub raw_guess : Float → Float → Float
 raw_guess dnf dny =
-    if (Ieee.le dnf tenth_of_nano || Ieee.le dny tenth_of_nano)
+    when (Ieee.le dnf tenth_of_nano || Ieee.le dny tenth_of_nano)
     then micro
     else sqrt_of (dny ⊘ dnf) ⊗ hundredth
 
@@ -31,7 +31,7 @@ raw_guess dnf dny =
 unfoldable pub first_guess : Float → Float → Float → Float → Float
 first_guess dnf dny hmax posneg =
     let h = raw_guess dnf dny in
-    let c = if Ieee.lt (abs_of hmax) h then abs_of hmax else h in
+    let c = when Ieee.lt (abs_of hmax) h then abs_of hmax else h in
     abs_of c ⊗ signum_of posneg
 
 unfoldable pub guess : ℕ → Float → Float → List Float → Float
@@ -55,7 +55,7 @@ second n ws = loop 0 n (second_turn n ws) +0
 -- a power of 1 / iord with iord 1 is the number itself
 unfoldable pub h1 : Float → Float → Float
 h1 der12 size =
-    if Ieee.le der12 femto
+    when Ieee.le der12 femto
     then max_of micro (size ⊗ milli)
     else hundredth ⊘ der12
 
@@ -75,4 +75,4 @@ hinit n hmax posneg ws = final_guess (second n ws) (squares n f0 ws) (guess n hm
 unfoldable pub within_span : Float → Float → Float → Float → Float
 within_span g x xend direction =
     let max_h = abs_of (xend ⊖ x) in
-    abs_of (if Ieee.lt max_h (abs_of g) then max_h ⊗ direction else g)
+    abs_of (when Ieee.lt max_h (abs_of g) then max_h ⊗ direction else g)

@@ -2,7 +2,7 @@
 -- accepted one and its notice.
 use Rattle.std.specs.Prelude.{List, Bool, ◌&&◌, ◌||◌, ℕ, ◌+◌, ◌*◌, eqb, Float}
 use Rattle.std.specs.Float.Ieee
-use Rattle.loops.specs.Choice.{if◌then◌else◌}
+use Rattle.loops.specs.Choice.{when◌then◌else◌}
 use Rattle.loops.specs.Cell.{at}
 use Rattle.number.specs.Helpers.{max_of}
 use Rattle.roots.specs.Roots.{inverse_root}
@@ -30,7 +30,7 @@ error_fails guarded norm = Ieee.lt one norm || (guarded && Ieee.is_nan norm)
 
 -- what a rejection for its error leaves of the step: safety times root, at least MIN_FACTOR; or one half, where the norm is NaN
 unfoldable pub error_factor : ℕ → Float → Float → Float
-error_factor order safety norm = if Ieee.is_nan norm then half else max_of (safety ⊗ inverse_root (order + 1) norm) min_factor
+error_factor order safety norm = when Ieee.is_nan norm then half else max_of (safety ⊗ inverse_root (order + 1) norm) min_factor
 
 -- a rejection for its error: the factoring is kept
 unfoldable pub error_rejected : Progress → Float → Float → List Float → Left Tried
@@ -76,7 +76,7 @@ judged p ws q =
     let norm = rhs_norm p.n w in
     let safety = safety_of p.limits.newton p.newton.iters in
     let e = error_rejected p safety norm w in
-    if error_fails (is_guarded p) norm then after e.is e.ws q else step_accepted p safety norm w q
+    when error_fails (is_guarded p) norm then after e.is e.ws q else step_accepted p safety norm w q
 
 -- ---- the iteration
 
@@ -92,8 +92,8 @@ newton_again p norm ws q =
 -- by the tests on the correction's norm; y_new and delta are advanced before any of them
 unfoldable pub iterated : Progress → Float → List Float → List Float → After Tried
 iterated p norm ws q =
-    if converged p.span.newton_tol p.newton.iters p.newton.prev norm then judged p ws q
-    else if gave_up p.span.newton_tol p.limits.newton p.newton.iters p.newton.prev norm then newton_failed p ws q
+    when converged p.span.newton_tol p.newton.iters p.newton.prev norm then judged p ws q
+    else when gave_up p.span.newton_tol p.limits.newton p.newton.iters p.newton.prev norm then newton_failed p ws q
     else newton_again p norm ws q
 
 unfoldable pub newton_replied : Progress → List Float → List Float → List Float → After Tried

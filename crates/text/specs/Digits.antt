@@ -2,11 +2,11 @@
 use Rattle.std.specs.Prelude.{List, [], ◌∷◌, ◌++◌, ℕ, zero, suc, ◌+◌, ◌/◌, ◌%◌, ltb, Float}
 use Rattle.std.specs.Float.{binary64}
 use Rattle.std.specs.Float.Ieee.{to_bits}
-use Rattle.loops.specs.Choice.{if◌then◌else◌}
+use Rattle.loops.specs.Choice.{when◌then◌else◌}
 
 -- the code of a digit below 16: `0` to `9`, then `A` to `F`
 unfoldable pub digit : ℕ → ℕ
-digit d = if ltb d 10 then 48 + d else 55 + d
+digit d = when ltb d 10 then 48 + d else 55 + d
 
 -- the last k digits of n in a base, the most significant first
 unfoldable pub spelled : ℕ → ℕ → ℕ → List ℕ
@@ -17,7 +17,7 @@ spelled base (suc k) n = spelled base k (n / base) ++ (digit (n % base) ∷ [])
 -- how many decimal digits n has, of at most `more` beyond the first: one for 0
 unfoldable pub places_within : ℕ → ℕ → ℕ
 places_within zero n = 1
-places_within (suc more) n = if ltb n 10 then 1 else places_within more (n / 10) + 1
+places_within (suc more) n = when ltb n 10 then 1 else places_within more (n / 10) + 1
 
 -- a 64-bit word has at most 20
 abbrev pub places_of : ℕ → ℕ

@@ -1,6 +1,6 @@
 -- A page: the place where the next text goes, beside the bytes. Text is put on it whole, or not begun.
 use Rattle.std.specs.Prelude.{Bool, true, false, List, ◌++◌, ℕ, ◌+◌, leb, length, take, drop}
-use Rattle.loops.specs.Choice.{if◌then◌else◌}
+use Rattle.loops.specs.Choice.{when◌then◌else◌}
 use Rattle.text.specs.declared.page.Place.{Place}
 use Rattle.text.specs.declared.page.Place.TheVariants.{At, Full}
 
@@ -16,5 +16,5 @@ stands_of Full = false
 -- full, and a full page stays as it is.
 unfoldable pub puts : List ℕ → Page → Page
 puts t (At at, out) =
-    if leb (at + length t) (length out) then (At (at + length t), take at out ++ (t ++ drop (at + length t) out)) else (Full, out)
+    when leb (at + length t) (length out) then (At (at + length t), take at out ++ (t ++ drop (at + length t) out)) else (Full, out)
 puts t (Full, out) = (Full, out)

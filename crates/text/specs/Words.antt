@@ -1,6 +1,6 @@
 -- A 64-bit word out of bytes, and a number into bytes: digits in base 256, the most significant first.
 use Rattle.std.specs.Prelude.{List, [], ◌∷◌, ◌++◌, ℕ, zero, suc, ◌+◌, ◌*◌, ◌/◌, ◌%◌, ◌<◌, leb, length, get_or}
-use Rattle.loops.specs.Choice.{if◌then◌else◌}
+use Rattle.loops.specs.Choice.{when◌then◌else◌}
 use Rattle.loops.specs.Loop.{loop}
 use Rattle.text.specs.declared.word.Word.{Word}
 use Rattle.text.specs.declared.word.Word.TheVariants.{Is, Short}
@@ -16,7 +16,7 @@ word_from s at = loop 0 8 (word_turn s at) 0
 -- the same, or Short where fewer than eight bytes stand there
 unfoldable pub word_at : List ℕ → ℕ → Word
 unfolding word_from
-word_at s at = if leb (at + 8) (length s) then Is (word_from s at) else Short
+word_at s at = when leb (at + 8) (length s) then Is (word_from s at) else Short
 
 -- the last k bytes of w: eight are the whole of a 64-bit word
 unfoldable pub bytes_of : ℕ → ℕ → List ℕ

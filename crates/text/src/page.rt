@@ -2,7 +2,7 @@
 // Text that has no room is not begun, and from then on nothing is written: what is on the page is never garbled.
 ghost use Rattle.std.specs.Prelude.{◌≡◌, [], ◌∷◌, ◌++◌, ◌+◌, ◌≤◌, ◌<◌, leb, length, take, drop};
 ghost use Rattle.text.specs.Digits.{spelled, places_of, decimal, hexadecimal};
-ghost use Rattle.text.specs.Digits.{digit as digitOf};
+ghost use Rattle.text.specs.Digits.{digit as digit_of};
 ghost use Rattle.text.specs.Page.{puts, stands_of};
 
 use crate::bits;
@@ -125,7 +125,7 @@ fn spell(out: &mut [u8], at: usize, base: u64, k: usize, n: u64)
 
 fn digit(d: u64) -> u8
     requires { d < 16 }
-    ensures { result ≡ digitOf d }
+    ensures { result ≡ digit_of d }
 {
     if d < 10 {
         return 48 + d as u8;

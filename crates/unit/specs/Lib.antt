@@ -1,4 +1,2 @@
 -- The unit coefficients: the table, and what is promised of it.
 pub mod Unit
-pub mod laws
-pub mod promises

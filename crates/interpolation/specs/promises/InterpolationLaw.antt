@@ -10,7 +10,7 @@ use Rattle.std.specs.Float.{binary64}
 use Rattle.std.specs.Float.Ieee.{fits}
 use Rattle.std.specs.Float.Ieee.Fits.{add-fits}
 use Rattle.std.specs.Float.Ieee.Scale.{finite}
-use Rattle.loops.specs.Choice.{if◌then◌else◌}
+use Rattle.loops.specs.Choice.{when◌then◌else◌}
 use Rattle.loops.specs.Cell.{at}
 use Rattle.loops.specs.Refusal.{gives, refuses}
 use Rattle.loops.specs.Arithmetic.{◌⊕◌, +0}
@@ -53,8 +53,8 @@ sum_keeps cont p order i c z =
 
 -- what is given is the values, and not a refusal
 given_values : (a b : Bool) (yi values ys : List Float)
-    → (if a then says (refuses 1) yi else if b then says (gives tt) values else says (refuses 13) yi) ≡ says (gives tt) ys → ys ≡ values
-unfolding if◌then◌else◌
+    → (when a then says (refuses 1) yi else when b then says (gives tt) values else says (refuses 13) yi) ≡ says (gives tt) ys → ys ≡ values
+unfolding when◌then◌else◌
 given_values true b yi values ys e = absurd (let z : ◌≡◌ {A = ℕ} 0 1 = cc in omega arith)
 given_values false true yi values ys e = cc
 given_values false false yi values ys e = absurd (let z : ◌≡◌ {A = ℕ} 0 1 = cc in omega arith)
@@ -62,7 +62,7 @@ given_values false false yi values ys e = absurd (let z : ◌≡◌ {A = ℕ} 0 
 -- the values, past the tests for a step of 0 and for no components
 values_are : (xi : Float) (yi cont : List Float) (xold h : Float) → Ieee.eq h +0 ≡ false → 0 < length yi
     → values_at xi yi cont xold h ≡ evaluated cont (products xi (xold ⊕ h) h (order_of (at cont 6))) (order_of (at cont 6)) yi
-unfolding values_at if◌then◌else◌
+unfolding values_at when◌then◌else◌
 values_are xi yi cont xold h e some = rw (e, ne_eqb (length yi) 0 (λ z. omega arith))
 
 value_at : (cont p : List Float) (order : ℕ) (yi : List Float) (i : ℕ) → i < length yi → at (evaluated cont p order yi) i ≡ sum_at cont p order i

@@ -2,7 +2,7 @@
 -- same yi.
 use Rattle.std.specs.Prelude.{◌≡◌, refl, List, eqb, Float}
 use Rattle.std.proofs.Common.{sym, ap, ◌∙◌}
-use Rattle.loops.specs.Choice.{if◌then◌else◌}
+use Rattle.loops.specs.Choice.{when◌then◌else◌}
 use Rattle.loops.specs.Refusal.{Outcome, gives, refuses}
 use Rattle.interpolation.specs.declared.polynomial.Interpolation.{Interpolation}
 use Rattle.interpolation.specs.declared.polynomial.Interpolation.TheVariants.{Interpolated, TooMany, WrongLength}
@@ -21,10 +21,10 @@ leaving (says r yi) = yi
 
 unfoldable told : Outcome (Unit {0}) → Interpolation
 told (gives _) = Interpolated
-told (refuses k) = if eqb k 1 then TooMany else WrongLength
+told (refuses k) = when eqb k 1 then TooMany else WrongLength
 
 answer_read : (r : Interpolation) → told (said_of r) ≡ r
-unfolding told if◌then◌else◌
+unfolding told when◌then◌else◌
 answer_read Interpolated = refl
 answer_read TooMany = refl
 answer_read WrongLength = refl

@@ -6,7 +6,7 @@ use Rattle.std.proofs.Common.{◌∙◌, arith, ne_eqb}
 use Rattle.std.specs.Float.Ieee
 use Rattle.std.specs.Float.Ieee.{Float}
 use Rattle.loops.specs.Arithmetic.{◌⊖◌, +0}
-use Rattle.loops.specs.Choice.{if◌then◌else◌}
+use Rattle.loops.specs.Choice.{when◌then◌else◌}
 use Rattle.loops.specs.Refusal.{Outcome, gives, refuses}
 use Rattle.loops.specs.laws.ChoiceLaws.{when_true, when_false, through}
 use Rattle.number.specs.Helpers.{signum_of}
@@ -20,14 +20,14 @@ use Rattle.job.specs.Writing.{begins_of, begun_of}
 
 -- ---- the tests, last ones first
 
-given_begun : (long : ℕ) (h direction : Float) → (if Ieee.eq h +0 then refuses 8 else gives long) ≡ begun_of long (zero_step (Given h) direction)
+given_begun : (long : ℕ) (h direction : Float) → (when Ieee.eq h +0 then refuses 8 else gives long) ≡ begun_of long (zero_step (Given h) direction)
 unfolding number_of
 given_begun long h direction = through (begun_of long) refl (λ _. refl) (λ _. refl)
 
 zero_start_begun :
     (long : ℕ) (automatic : Bool) (h direction : Float) →
-    (if automatic then gives long else if Ieee.eq h +0 then refuses 8 else gives long) ≡ begun_of long (zero_step (if automatic then Unset else Given h) direction)
-unfolding if◌then◌else◌
+    (when automatic then gives long else when Ieee.eq h +0 then refuses 8 else gives long) ≡ begun_of long (zero_step (when automatic then Unset else Given h) direction)
+unfolding when◌then◌else◌
 zero_start_begun long true h direction = refl
 zero_start_begun long false h direction = given_begun long h direction
 
@@ -39,7 +39,7 @@ none_negative r a (suc left) i p q = when_false _ _ p ∙ when_false _ _ q ∙ n
 
 negative_begun :
     (long : ℕ) (r a : Float) (left : ℕ) (later : Check) {l : Outcome ℕ} → 0 < left → l ≡ begun_of long later →
-    (if Ieee.lt r +0 then refuses 5 else if Ieee.lt a +0 then refuses 5 else l) ≡ begun_of long (or_else (negative (Scalar r) [] (Scalar a) [] left 0) later)
+    (when Ieee.lt r +0 then refuses 5 else when Ieee.lt a +0 then refuses 5 else l) ≡ begun_of long (or_else (negative (Scalar r) [] (Scalar a) [] left 0) later)
 unfolding negative number_of
 negative_begun long r a zero later some e = absurd (omega arith)
 negative_begun long r a (suc left) later some e =
@@ -52,18 +52,18 @@ negative_begun long r a (suc left) later some e =
 
 module _ (f : Form) (long : ℕ) where
   pub begun_of_nothing : f.n ≡ 0 → begun_of long (begins_of (job_of f)) ≡ gives long
-  unfolding begins_of job_of if◌then◌else◌
+  unfolding begins_of job_of when◌then◌else◌
   begun_of_nothing e = rw e
 
   -- with a component
   pub begun_by_tests :
       0 < f.n →
-      (if Ieee.lt (value_of f.rtol) +0 then refuses 5
-      else if Ieee.lt (value_of f.atol) +0 then refuses 5
-      else if eqb f.max_steps 0 then refuses 6
-      else if (ltb 1000000 f.max_steps || ltb 64 f.newton_maxiter) then refuses 7
-      else if f.automatic then gives long
-      else if Ieee.eq (value_of f.first_step) +0 then refuses 8
+      (when Ieee.lt (value_of f.rtol) +0 then refuses 5
+      else when Ieee.lt (value_of f.atol) +0 then refuses 5
+      else when eqb f.max_steps 0 then refuses 6
+      else when (ltb 1000000 f.max_steps || ltb 64 f.newton_maxiter) then refuses 7
+      else when f.automatic then gives long
+      else when Ieee.eq (value_of f.first_step) +0 then refuses 8
       else gives long) ≡
       begun_of long (begins_of (job_of f))
   unfolding begins_of job_of first_step_of tolerances_checked limited number_of

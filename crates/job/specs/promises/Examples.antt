@@ -1,6 +1,6 @@
 -- What the definitions give at the first job of docs/JOB-FORMAT.md and at files that are easily judged wrongly, by computation.
 use Rattle.std.specs.Prelude.{◌≡◌, refl, [], ◌∷◌}
-use Rattle.loops.specs.Choice.{if◌then◌else◌}
+use Rattle.loops.specs.Choice.{when◌then◌else◌}
 use Rattle.loops.specs.Loop.{turns, loop}
 use Rattle.loops.specs.Refusal.{refuses}
 use Rattle.job.specs.Packed.{head_bits, head_of}
@@ -13,15 +13,15 @@ example_head = refl
 
 -- four bytes are no job, whatever they say
 pub four_bytes : read_of (0xFF ∷ 0 ∷ 0 ∷ 0 ∷ []) [] [] ≡ (refuses 17, [], [])
-unfolding read_of form_read if◌then◌else◌
+unfolding read_of form_read when◌then◌else◌
 four_bytes = refl
 
 -- 33 components are too many before the length and the padding are judged
 pub thirty_three : read_of (0x84 ∷ 0 ∷ 0 ∷ 0 ∷ 0x3F ∷ []) [] [] ≡ (refuses 1, [], [])
-unfolding read_of form_read head_read head_bits loop turns if◌then◌else◌
+unfolding read_of form_read head_read head_bits loop turns when◌then◌else◌
 thirty_three = refl
 
 -- and 32 are not
 pub thirty_two : read_of (0x80 ∷ 0 ∷ 0 ∷ 0 ∷ 0 ∷ []) [] [] ≡ (refuses 17, [], [])
-unfolding read_of form_read head_read accepted_of head_bits loop turns if◌then◌else◌
+unfolding read_of form_read head_read accepted_of head_bits loop turns when◌then◌else◌
 thirty_two = refl

@@ -2,7 +2,7 @@
 -- easily judged wrongly.
 use Rattle.std.specs.Prelude.{◌≡◌, refl, Bool, true, false, List, [], ◌∷◌, ℕ}
 use Rattle.std.specs.Float.Ieee.{of_bits, lt, eq}
-use Rattle.loops.specs.Choice.{if◌then◌else◌}
+use Rattle.loops.specs.Choice.{when◌then◌else◌}
 use Rattle.loops.specs.Loop.{turns, loop}
 use Rattle.loops.specs.Refusal.{gives, refuses}
 use Rattle.text.specs.Words.{word_from, bytes_of}
@@ -60,14 +60,14 @@ pub first_job :
           0x3F ∷ 0xF0 ∷ 0 ∷ 0 ∷ 0 ∷ 0 ∷ 0 ∷ 0 ∷
           0 ∷ 0 ∷ 0 ∷ 0 ∷ 0 ∷ 0 ∷ 0 ∷ 0 ∷ 8 ∷ 9 ∷ [],
     )
-unfolding write_of judged_of fits_of begins_of job_of first_step_of tolerances_checked negative limited number_of packed_of bytes_of joined if◌then◌else◌ of_bits lt eq
+unfolding write_of judged_of fits_of begins_of job_of first_step_of tolerances_checked negative limited number_of packed_of bytes_of joined when◌then◌else◌ of_bits lt eq
 first_job = refl
 
 -- a NaN of either sign and with a payload is written and read as it is
 pub nan_keeps_its_bits :
     read_form_of (packed_of (form 1 500 4 true 0 milli) (0xFFF8_0000_0000_0001 ∷ []) (0x7FF0_0000_0000_0001 ∷ [])) [] [] ≡
     (gives (form 1 500 4 true 0 milli), 0xFFF8_0000_0000_0001 ∷ [], 0x7FF0_0000_0000_0001 ∷ [])
-unfolding read_form_of form_read head_read accepted_of form_of words_of word_from head_bits packed_of bytes_of joined loop turns if◌then◌else◌
+unfolding read_form_of form_read head_read accepted_of form_of words_of word_from head_bits packed_of bytes_of joined loop turns when◌then◌else◌
 nan_keeps_its_bits = refl
 
 -- ---- what is judged, in its order
@@ -95,7 +95,7 @@ pub record Judged : Type 0 where
   pub short_and_negative : write_of (form 1 1 4 true 0 0xBFF0_0000_0000_0000) (one ∷ []) (0 ∷ []) (7 ∷ []) ≡ (refuses 5, 7 ∷ [])
 
 pub judged : Judged
-unfolding write_of judged_of fits_of begins_of job_of first_step_of tolerances_checked negative limited number_of if◌then◌else◌ of_bits lt eq
+unfolding write_of judged_of fits_of begins_of job_of first_step_of tolerances_checked negative limited number_of when◌then◌else◌ of_bits lt eq
 judged =
     record {
       thirty_three = refl;

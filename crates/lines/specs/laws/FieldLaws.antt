@@ -4,7 +4,7 @@ use Rattle.std.specs.Prelude.{◌≡◌, refl, true, false, List, [], ◌∷◌,
 use Rattle.std.proofs.Common.{sym, subst, append_assoc, append-nil, arith, length-append, leb-true}
 use Rattle.std.specs.Float.{binary64}
 use Rattle.std.specs.Float.Ieee.{to_bits}
-use Rattle.loops.specs.Choice.{if◌then◌else◌}
+use Rattle.loops.specs.Choice.{when◌then◌else◌}
 use Rattle.loops.specs.laws.ChoiceLaws.{when_false}
 use Rattle.text.specs.Digits.{decimal, hexadecimal, places_within, places_of}
 use Rattle.text.specs.laws.DigitLaws.{length_spelled}
@@ -89,7 +89,7 @@ length_refusal number = omega (arith, length_line 82 (decimal number ∷ []), le
 
 -- a status has one digit
 status_digit : (status : Status) → places_of (status_of status) ≡ 1
-unfolding places_within if◌then◌else◌
+unfolding places_within when◌then◌else◌
 status_digit Success = refl
 status_digit UserInterrupt = refl
 status_digit NeedLargerNMax = refl

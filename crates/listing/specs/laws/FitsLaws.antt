@@ -7,12 +7,13 @@ use Rattle.rules.specs.Answers.{is_refused, is_question_or_notice}
 use Rattle.rules.specs.State.{After}
 use Rattle.rules.specs.Calls.{Configuration, beginning}
 use Rattle.rules.specs.History.{questions_and_notices}
-use Rattle.rules.specs.laws.CheckLaws.{Bounded}
-use Rattle.rules.specs.laws.ExchangeLaws.{Kept, idle, works, exchange_kept}
-use Rattle.rules.specs.laws.GoOnLaws.{few_undamaged}
-use Rattle.rules.specs.promises.Demand3.{m}
-use Rattle.rules.specs.promises.NeverDamaged.{never_damaged}
-use Rattle.rules.specs.promises.RunEnds.{most, no_longer}
+use Rattle.rules.proofs.laws.CheckLaws.{Bounded}
+use Rattle.rules.proofs.laws.ExchangeLaws.{Kept, idle, works, exchange_kept}
+use Rattle.rules.proofs.laws.GoOnLaws.{few_undamaged}
+use Rattle.rules.specs.Bounds.{m}
+use Rattle.rules.proofs.promises.NeverDamaged.{never_damaged}
+use Rattle.rules.specs.Bounds.{most}
+use Rattle.rules.proofs.promises.RunEnds.{no_longer}
 use Rattle.listing.specs.Types.{Answer, Derivative, Jacobian, Start, Step, End, Refused, Run, Turn}
 use Rattle.listing.specs.Replies.{replied}
 use Rattle.listing.specs.Printed.{line_of, blank_work, blank_question}

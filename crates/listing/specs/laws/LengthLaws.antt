@@ -15,11 +15,11 @@ use Rattle.rules.specs.State.{After, after}
 use Rattle.rules.specs.Begin.{begin_run}
 use Rattle.rules.specs.GoOn.{go_within}
 use Rattle.rules.specs.Calls.{Configuration, beginning, Call, going_on}
-use Rattle.rules.specs.laws.CheckLaws.{cleared}
-use Rattle.rules.specs.laws.GoOnLaws.{handed}
-use Rattle.rules.specs.laws.QuestionLaws.{Speaks, Says}
-use Rattle.rules.specs.laws.SpeakLaws.{replied_speaks, ask_first_speaks}
-use Rattle.rules.specs.laws.CallLaws.{beginning_cases, going_on_cases}
+use Rattle.rules.proofs.laws.CheckLaws.{cleared}
+use Rattle.rules.proofs.laws.GoOnLaws.{handed}
+use Rattle.rules.proofs.laws.QuestionLaws.{Speaks, Says}
+use Rattle.rules.proofs.laws.SpeakLaws.{replied_speaks, ask_first_speaks}
+use Rattle.rules.proofs.laws.CallLaws.{beginning_cases, going_on_cases}
 use Rattle.job.specs.Right.{row_sum, right_turn, right_of}
 use Rattle.job.specs.declared.form.Form.{Form}
 use Rattle.job.specs.Packed.{doubles_of}

@@ -3,14 +3,14 @@
 use Rattle.std.specs.Prelude.{◌≡◌, refl, List, [], ◌++◌, ℕ, ◌+◌, ◌≤◌, leb, ltb, length, take, Float}
 use Rattle.std.proofs.Common.{sym, ◌∙◌, arith, take-append-drop, take_all, leb-true, ltb-true, ltb-false}
 use Rattle.std.proofs.Math.Seq.{take-length}
-use Rattle.loops.specs.Choice.{if◌then◌else◌}
+use Rattle.loops.specs.Choice.{when◌then◌else◌}
 use Rattle.loops.specs.laws.ChoiceLaws.{either}
 use Rattle.text.specs.declared.page.Place.TheVariants.{At, Full}
 use Rattle.text.specs.Page.{Page as Put, puts}
 use Rattle.text.specs.laws.PageLaws.{puts_whole, before_next, length_laid}
 
 -- a part that is cut at the lesser of a number and the length
-pub taken_within : (n : ℕ) (l : List Float) → take (if ltb n (length l) then n else length l) l ≡ take n l
+pub taken_within : (n : ℕ) (l : List Float) → take (when ltb n (length l) then n else length l) l ≡ take n l
 taken_within n l =
     either (λ (k : ℕ). take k l ≡ take n l) (ltb n (length l)) (λ _. refl)
     (λ e. take-length l ∙ sym (take_all n l (ltb-false n (length l) e)))
@@ -34,6 +34,6 @@ put_at t at out =
     (λ _. refl)
 
 -- the lesser of a number and a length is within the length
-pub lesser_within : (n len : ℕ) {r : ℕ} → r ≡ (if ltb n len then n else len) → r ≤ len
+pub lesser_within : (n len : ℕ) {r : ℕ} → r ≡ (when ltb n len then n else len) → r ≤ len
 lesser_within n len e =
     rw e (either (λ (k : ℕ). k ≤ len) (ltb n len) (λ less. omega (arith, ltb-true n len less)) (λ _. omega arith))

@@ -8,7 +8,7 @@ use Rattle.std.proofs.Math.ListN.{length, take, replicate, length-replicate}
 use Rattle.std.proofs.Math.Seq.{take_all}
 use borrow.Author.Tests.{le-leb, lt-ltb, eq-eqb}
 use Rattle.loops.specs.Arithmetic.{+0}
-use Rattle.loops.specs.Choice.{if◌then◌else◌}
+use Rattle.loops.specs.Choice.{when◌then◌else◌}
 use Rattle.loops.specs.Loop.{loop}
 use Rattle.loops.specs.laws.LoopLaws.{stored_length}
 use Rattle.loops.specs.laws.Turned.{loop_more}
@@ -51,7 +51,7 @@ module _ (a y dy : List Float) (same : length dy ≡ length y) where
 
   -- what is written where the sizes agree
   pub right_side_writes : length y ≤ max_n → length a ≡ length y * length y → (right_side_of a y dy).1 ≡ times_of a y
-  unfolding right_side_of sized_of if◌then◌else◌
+  unfolding right_side_of sized_of when◌then◌else◌
   right_side_writes few square =
       rw (le-leb (length y) max_n few, eq-eqb (length a) (length y * length y) square, eq-eqb (length dy) (length y) same) right_is_times
 
@@ -60,5 +60,5 @@ module _ (a y dy : List Float) (same : length dy ≡ length y) where
 pub too_many_refused :
     (run : Run) (r : Reply) (values ws q : List Float) → max_n < run.at.n →
     go_on_of run r values ws q ≡ after (record { answer = Refused Damaged; run = run }) ws q
-unfolding go_on_of go_checked damaged if◌then◌else◌
+unfolding go_on_of go_checked damaged when◌then◌else◌
 too_many_refused run r values ws q many = rw (lt-ltb max_n run.at.n many)

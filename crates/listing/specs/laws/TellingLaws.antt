@@ -18,10 +18,11 @@ use Rattle.rules.specs.State.{After, after}
 use Rattle.rules.specs.Calls.{Configuration, beginning, going_on, size}
 use Rattle.rules.specs.History.{begun, Exchange, begins, goes_on, questions_and_notices}
 use Rattle.rules.specs.Known.{is_modified, StillAsTold, leaves, LeftAlone}
-use Rattle.rules.specs.laws.GoOnLaws.{few_undamaged}
-use Rattle.rules.specs.laws.HistoryLaws.{last_taken}
-use Rattle.rules.specs.promises.NeverDamaged.{never_damaged, RepliesTo, in_kind_is_taken}
-use Rattle.rules.specs.promises.RunEnds.{most, no_longer}
+use Rattle.rules.proofs.laws.GoOnLaws.{few_undamaged}
+use Rattle.rules.proofs.laws.HistoryLaws.{last_taken}
+use Rattle.rules.proofs.promises.NeverDamaged.{never_damaged, RepliesTo, in_kind_is_taken}
+use Rattle.rules.specs.Bounds.{most}
+use Rattle.rules.proofs.promises.RunEnds.{no_longer}
 use Rattle.listing.specs.Types.{Answer, Derivative, Jacobian, Start, Step, End, Refused, Run, Turn}
 use Rattle.listing.specs.Replies.{reply_to, replying, replied}
 use Rattle.listing.specs.Printed.{line_of, lines_from, blank_work, blank_question, run_lines}

@@ -6,7 +6,7 @@ use Rattle.std.proofs.lemmas.Bool.{false≢true}
 use Prim.Native.Char.{code}
 use Prim.Native.String
 use Rattle.std.specs.Float.Ieee.{of_bits, to_bits, of_int, add, sub, mul, div, neg, eq, ne, lt, le}
-use Rattle.loops.specs.Choice.{if◌then◌else◌}
+use Rattle.loops.specs.Choice.{when◌then◌else◌}
 use Rattle.loops.specs.Loop.{turns, loop}
 use Rattle.loops.specs.Arithmetic.{+0}
 use Rattle.loops.specs.Refusal.{gives, refuses}
@@ -32,7 +32,7 @@ use Rattle.rules.specs.GoOn.{pivot_outside, limits_damaged, steps_damaged, count
 use Rattle.rules.specs.Answers.{is_question_or_notice}
 use Rattle.rules.specs.Calls.{Configuration, beginning}
 use Rattle.rules.specs.State.{After}
-use Rattle.rules.specs.promises.RunEnds.{most}
+use Rattle.rules.specs.Bounds.{most}
 use Rattle.text.specs.Digits.{digit, spelled, places_within}
 use Rattle.text.specs.Words.{word_from}
 use Rattle.lines.specs.Lines.{spaced, line, hexes}
@@ -144,7 +144,7 @@ pub record Computed : Type 0 where
       bytes "I 0000000000000000 3FF0000000000000\nS 3FE0000000000000 3FF0000000000000\nE 2 3FE0000000000000 1 1 0 2 1 1 0\n"
 
 pub computed : Computed
-unfolding if◌then◌else◌ turns loop abs_of signum_of min_of max_of sqrt_of sized_of single_of lu_decomp_of inside_of divided_of solved_of lin_solve_of gammas alphas error_consts copy_turn copied fill_turn filled load_turn loaded predicted_turn predicted predict_turn predict scale_of scale_turn scaled psi_sum_turn psi_sum psi_turn psied square_of square_turn sum_of_squares rhs_norm matrix_turn matrix_cells diagonal matrix_row matrix factored residual_turn residual solved correction advance_turn advanced converged safety_of weigh_turn weighed newest_turn newest add_next_turn add_next summed_turn summed coeff coeff_turn coeffs cont_turn prepared accepted_ws to_hmax to_hmin aimed newton_start must_factor refactored predicted_all attempt_at unless_stuck fitted fitted_attempt attempt tries main_loop step_accepted error_fails error_ws judged iterated newton_replied jacobian_stored first_turn first_difference differences started first_step stepped newton_turn first_derivative first_jacobian negative limited tolerances_checked checked span_of kept begin_ws ask_first begin_run begin_of pivot_outside limits_damaged steps_damaged counters_damaged damaged_above0 damaged go_checked go_within go_on_of of_bits of_int add sub mul div neg eq lt le ne kappa to_bits digit spelled places_within word_from spaced line hexes head_bits words_of accepted_of form_of head_read form_read first_step_of job_of read_of sum_turn row_sum right_turn right_of replied lines_from printed
+unfolding when◌then◌else◌ turns loop abs_of signum_of min_of max_of sqrt_of sized_of single_of lu_decomp_of inside_of divided_of solved_of lin_solve_of gammas alphas error_consts copy_turn copied fill_turn filled load_turn loaded predicted_turn predicted predict_turn predict scale_of scale_turn scaled psi_sum_turn psi_sum psi_turn psied square_of square_turn sum_of_squares rhs_norm matrix_turn matrix_cells diagonal matrix_row matrix factored residual_turn residual solved correction advance_turn advanced converged safety_of weigh_turn weighed newest_turn newest add_next_turn add_next summed_turn summed coeff coeff_turn coeffs cont_turn prepared accepted_ws to_hmax to_hmin aimed newton_start must_factor refactored predicted_all attempt_at unless_stuck fitted fitted_attempt attempt tries main_loop step_accepted error_fails error_ws judged iterated newton_replied jacobian_stored first_turn first_difference differences started first_step stepped newton_turn first_derivative first_jacobian negative limited tolerances_checked checked span_of kept begin_ws ask_first begin_run begin_of pivot_outside limits_damaged steps_damaged counters_damaged damaged_above0 damaged go_checked go_within go_on_of of_bits of_int add sub mul div neg eq lt le ne kappa to_bits digit spelled places_within word_from spaced line hexes head_bits words_of accepted_of form_of head_read form_read first_step_of job_of read_of sum_turn row_sum right_turn right_of replied lines_from printed
 computed = record { whole = whole_job; one_step = refl }
   where
     is_job : is_read (reading job) ≡ true

@@ -15,7 +15,7 @@ use Rattle.text.specs.Page.{Page as Put, puts}
 use Rattle.lines.specs.Lines.{refusal_line}
 use Rattle.rules.specs.Answers.{is_question_or_notice}
 use Rattle.rules.specs.State.{After, after}
-use Rattle.rules.specs.promises.RunEnds.{most}
+use Rattle.rules.specs.Bounds.{most}
 use Rattle.job.specs.Reading.{configuration_of}
 use Rattle.listing.specs.Types.{Run, Turn, Job}
 use Rattle.listing.specs.Replies.{replied}

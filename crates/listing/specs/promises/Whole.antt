@@ -24,8 +24,8 @@ use Rattle.rules.specs.State.{After, after}
 use Rattle.rules.specs.Calls.{Configuration, direction, beginning}
 use Rattle.rules.specs.History.{Exchange}
 use Rattle.rules.specs.Known.{Arrived, StillAsTold, last_told_x}
-use Rattle.rules.specs.promises.EndMeans.{success_was_told}
-use Rattle.rules.specs.promises.RunEnds.{most}
+use Rattle.rules.proofs.promises.EndMeans.{success_was_told}
+use Rattle.rules.specs.Bounds.{most}
 use Rattle.job.specs.Reading.{ReadOutcome, configuration_of}
 use Rattle.job.proofs.Serving.{read_serves}
 use Rattle.listing.specs.Types.{Answer, Derivative, Jacobian, Start, Step, End, Refused, Run, Turn, Job}

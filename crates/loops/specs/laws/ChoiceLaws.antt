@@ -1,27 +1,27 @@
 -- What holds of a choice by a test, and of rows of tests.
 use Rattle.std.specs.Prelude.{◌≡◌, refl, Bool, true, false, ◌&&◌}
-use Rattle.loops.specs.Choice.{if◌then◌else◌}
+use Rattle.loops.specs.Choice.{when◌then◌else◌}
 
 -- what holds of either way holds of the choice
-pub either : {A : Type 0} (P : A → Type 0) (b : Bool) {x y : A} → (b ≡ true → P x) → (b ≡ false → P y) → P (if b then x else y)
-unfolding if◌then◌else◌
+pub either : {A : Type 0} (P : A → Type 0) (b : Bool) {x y : A} → (b ≡ true → P x) → (b ≡ false → P y) → P (when b then x else y)
+unfolding when◌then◌else◌
 either P true f g = f refl
 either P false f g = g refl
 
 -- the way that a test takes
-pub when_true : {A : Type 0} {b : Bool} (x y : A) → b ≡ true → (if b then x else y) ≡ x
-unfolding if◌then◌else◌
+pub when_true : {A : Type 0} {b : Bool} (x y : A) → b ≡ true → (when b then x else y) ≡ x
+unfolding when◌then◌else◌
 when_true x y t = rw t
 
-pub when_false : {A : Type 0} {b : Bool} (x y : A) → b ≡ false → (if b then x else y) ≡ y
-unfolding if◌then◌else◌
+pub when_false : {A : Type 0} {b : Bool} (x y : A) → b ≡ false → (when b then x else y) ≡ y
+unfolding when◌then◌else◌
 when_false x y t = rw t
 
 -- a function of a choice is the choice of its values by the same test; each way may use how the test went
 pub through :
     {A B : Type 0} (m : A → B) {b b' : Bool} {x y : A} {x' y' : B} → b' ≡ b → (b ≡ true → x' ≡ m x) → (b ≡ false → y' ≡ m y) →
-    (if b' then x' else y') ≡ m (if b then x else y)
-unfolding if◌then◌else◌
+    (when b' then x' else y') ≡ m (when b then x else y)
+unfolding when◌then◌else◌
 through m {b = true} t e f = rw t (e refl)
 through m {b = false} t e f = rw t (f refl)
 

@@ -1,5 +1,5 @@
 -- The invariant of a counted loop, and its three uses in a proof: before the first turn, from turn to turn, after the last.
-use Rattle.std.specs.Prelude.{◌≡◌, refl, ℕ, suc, ◌+◌, ◌-◌, ◌≤◌, ◌<◌}
+use Rattle.std.specs.Prelude.{◌≡◌, ℕ, suc, ◌+◌, ◌-◌, ◌≤◌, ◌<◌}
 use Rattle.std.proofs.Common.{sym, ap, ◌∙◌, arith}
 use Rattle.loops.specs.Loop.{turns, loop}
 

@@ -2,7 +2,7 @@
 -- side and pivots, are the same answer and the same numbers left in every lent slice.
 use Rattle.std.specs.Prelude.{◌≡◌, refl, List, ℕ, eqb, Float}
 use Rattle.std.proofs.Common.{sym, ap, ◌∙◌}
-use Rattle.loops.specs.Choice.{if◌then◌else◌}
+use Rattle.loops.specs.Choice.{when◌then◌else◌}
 use Rattle.loops.specs.Refusal.{Outcome, gives, refuses}
 use Rattle.matrix.specs.declared.lu.Factoring.{Factoring}
 use Rattle.matrix.specs.declared.lu.Factoring.TheVariants.{Factored, WrongSize, Singular}
@@ -16,20 +16,20 @@ use Rattle.matrix.specs.Linear.{SolveOutcome, solution_of, lin_solve_of}
 -- the answer that an outcome tells, read back
 unfoldable factoring_told : Outcome Unit → Factoring
 factoring_told (gives _) = Factored
-factoring_told (refuses k) = if eqb k 14 then WrongSize else Singular
+factoring_told (refuses k) = when eqb k 14 then WrongSize else Singular
 
 factoring_read : (r : Factoring) → factoring_told (factoring_of r) ≡ r
-unfolding factoring_told if◌then◌else◌
+unfolding factoring_told when◌then◌else◌
 factoring_read Factored = refl
 factoring_read WrongSize = refl
 factoring_read Singular = refl
 
 unfoldable solution_told : Outcome Unit → Solution
 solution_told (gives _) = Solved
-solution_told (refuses k) = if eqb k 14 then SolveWrongSize else PivotOutside
+solution_told (refuses k) = when eqb k 14 then SolveWrongSize else PivotOutside
 
 solution_read : (r : Solution) → solution_told (solution_of r) ≡ r
-unfolding solution_told if◌then◌else◌
+unfolding solution_told when◌then◌else◌
 solution_read Solved = refl
 solution_read SolveWrongSize = refl
 solution_read PivotOutside = refl

@@ -4,7 +4,7 @@
 use Rattle.std.specs.Prelude.{◌≡◌, refl, true, false, [], ◌∷◌, ℕ, pos, negsuc, Float}
 use Rattle.std.specs.Float.{nan, inf, fin, binary64}
 use Rattle.std.specs.Float.Ieee.{of_bits, of_int, add, sub, mul, div, neg, eq, ne, lt, is_nan}
-use Rattle.loops.specs.Choice.{if◌then◌else◌}
+use Rattle.loops.specs.Choice.{when◌then◌else◌}
 use Rattle.loops.specs.Loop.{loop, turns}
 use Rattle.loops.specs.Refusal.{gives, refuses}
 use Rattle.number.specs.Helpers.{abs_of}
@@ -56,7 +56,7 @@ pub record Measured : Type 0 where
   pub mark_nan : order_of nan ≡ 0
 
 pub measured : Measured
-unfolding if◌then◌else◌ loop turns of_bits of_int add sub mul div neg eq ne lt is_nan sqrt_of inverse_root_of sized_of abs_of magnitude_of pivot_turn pivot_of exchanged_of scale_turn eliminate_turn column_turn stage_of last_of stages_of single_of lu_decomp_of inside_turn inside_of lower_turn forward_turn divided_of upper_turn back_turn solved_of lin_solve_of first_row m_turn m_row m_table r_turn r_row r_table compute_r scaled_turn add_scaled product_turn product_row matmul new_row_turn new_row new_rows load_turn loaded rescaled change_d order_of
+unfolding when◌then◌else◌ loop turns of_bits of_int add sub mul div neg eq ne lt is_nan sqrt_of inverse_root_of sized_of abs_of magnitude_of pivot_turn pivot_of exchanged_of scale_turn eliminate_turn column_turn stage_of last_of stages_of single_of lu_decomp_of inside_turn inside_of lower_turn forward_turn divided_of upper_turn back_turn solved_of lin_solve_of first_row m_turn m_row m_table r_turn r_row r_table compute_r scaled_turn add_scaled product_turn product_row matmul new_row_turn new_row new_rows load_turn loaded rescaled change_d order_of
 measured =
     record {
       sqrt_2·25 = refl;

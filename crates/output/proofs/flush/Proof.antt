@@ -6,7 +6,7 @@ use Prim.Native.Nat.{ℕ, ◌≤◌, ◌<◌}
 use lib.Dec.{leb}
 use borrow.Author.Rules.{rules}
 use borrow.Author.Tests.{le-leb, lt-leb}
-use Rattle.loops.specs.Choice.{if◌then◌else◌}
+use Rattle.loops.specs.Choice.{when◌then◌else◌}
 use Rattle.loops.specs.laws.ChoiceLaws.{when_true, when_false}
 use Rattle.text.specs.laws.Fronts.{front}
 use Rattle.text.specs.declared.page.Place.{Place}
@@ -20,16 +20,16 @@ unfolding flushed
 beyond len at p h = record { written = false; is = rw p (sym (when_false _ _ (lt-leb at len h))) }
 
 -- within the page the write decides
-decided : (len at : ℕ) (written : Bool) {place : Place} → place ≡ At at → at ≤ len → (if written then At 0 else Full) ≡ flushed written len place
+decided : (len at : ℕ) (written : Bool) {place : Place} → place ≡ At at → at ≤ len → (when written then At 0 else Full) ≡ flushed written len place
 unfolding flushed
 decided len at written p h = rw p (sym (when_true _ _ (le-leb at len h)))
 
 begun_anew : (len at : ℕ) {place : Place} → place ≡ At at → at ≤ len → Flushed len place (At 0)
-unfolding if◌then◌else◌
+unfolding when◌then◌else◌
 begun_anew len at p h = record { written = true; is = decided len at true p h }
 
 failed : (len at : ℕ) {place : Place} → place ≡ At at → at ≤ len → Flushed len place Full
-unfolding if◌then◌else◌
+unfolding when◌then◌else◌
 failed len at p h = record { written = false; is = decided len at false p h }
 
 stays_full : (len : ℕ) {place : Place} → place ≡ Full → Flushed len place Full

@@ -12,7 +12,7 @@ use Rattle.std.specs.Float.{nan, inf}
 use Rattle.std.specs.Float.Ieee.{fin, up, down}
 use Rattle.std.specs.Float.Ieee.Fits.{down_pos}
 use Rattle.std.specs.Float.Ieee.Nearest.{div_same}
-use Rattle.loops.specs.Choice.{if◌then◌else◌}
+use Rattle.loops.specs.Choice.{when◌then◌else◌}
 use Rattle.loops.specs.Arithmetic.{◌⊗◌, +0}
 use Rattle.loops.specs.laws.ChoiceLaws.{either}
 use Rattle.roots.specs.Roots.{units_of}
@@ -248,7 +248,7 @@ guess_past (fin false m e) g = clear_past (fin false m e) g g.fitting
 
 -- and two comparisons settle which
 pub past_found : (x : Float) → Good x
-    → first_past x ≡ (if Ieee.le (time_of (guess x + 1)) x then guess x + 2 else if Ieee.le (time_of (guess x)) x then guess x + 1 else guess x)
+    → first_past x ≡ (when Ieee.le (time_of (guess x + 1)) x then guess x + 2 else when Ieee.le (time_of (guess x)) x then guess x + 1 else guess x)
 past_found x g =
     let n = guess x in
     let r = guess_past x g in

@@ -11,7 +11,7 @@ use lib.Dec.{leb, ltb}
 use lib.ListN.{length, get_or, set, replicate}
 use lib.Seq.{get_or-set_same, get_or-set_other}
 use borrow.Author.Tests.{ltb-true, ltb-false, leb-true, leb-false, le-leb, lt-leb}
-use Rattle.loops.specs.Choice.{if◌then◌else◌}
+use Rattle.loops.specs.Choice.{when◌then◌else◌}
 use Rattle.loops.specs.laws.ChoiceLaws.{either}
 use Rattle.roots.specs.Numeral.{numeral, Digits}
 
@@ -85,7 +85,7 @@ same_digits p x y a b e =
     by_lower false h = lt-leb (x + a * p) (y + a * p) (omega (arith, leb-false x y h))
 
 -- the highest digit decides, and where it is the same those below it
-pub compare_digits : (p x y a b : ℕ) → x < p → y < p → leb (x + a * p) (y + b * p) ≡ (if ltb a b then true else if ltb b a then false else leb x y)
+pub compare_digits : (p x y a b : ℕ) → x < p → y < p → leb (x + a * p) (y + b * p) ≡ (when ltb a b then true else when ltb b a then false else leb x y)
 compare_digits p x y a b hx hy =
     either (λ (t : Bool). leb (x + a * p) (y + b * p) ≡ t) (ltb a b)
     (λ less.

@@ -5,7 +5,7 @@ use Rattle.std.specs.Prelude.{◌≡◌, refl, true, false, ℕ, zero, suc, ◌+
 use Rattle.std.proofs.Common.{sym, ap, ◌∙◌, zero-le, le_refl, le_of_lt, le_of_suc-le-suc, le_trans, lt_irrefl, lt_of_not-le, lt_of_le_of_lt, lt_of_lt_of_le, not-le_of_lt, mul-le-mul_left, mul-lt-mul_of_pos_right, le-mul_of_pos_right, pow-suc, arith, lit<, lit≤, pow-add, pow_pos}
 use Rattle.std.specs.Float.{nan, inf, fin, binary64}
 use Rattle.std.specs.Float.Ieee.{of_bits}
-use Rattle.loops.specs.Choice.{if◌then◌else◌}
+use Rattle.loops.specs.Choice.{when◌then◌else◌}
 use Rattle.roots.specs.Roots.{units_of, val, infinity_bits, inverse_root}
 use Rattle.roots.specs.laws.Patterns.{val_mono, val_only}
 use Rattle.roots.specs.laws.PatternRoots.{inverse_bits, inverse_is, inverse_in_range, inverse_overflows, inverse_overflowed}
@@ -99,5 +99,5 @@ pub record Subnormals : Type 0 where
   pub of_the_largest : FirstInverse 0x7fef_ffff_ffff_ffff 0x0004_0000_0000_0000
 
 pub subnormals : Subnormals
-unfolding if◌then◌else◌ of_bits inverse_root
+unfolding when◌then◌else◌ of_bits inverse_root
 subnormals = record { smallest = refl; last_infinite = refl; first_finite = refl; largest = refl; first_normal = refl; of_the_largest = refl }

@@ -1,5 +1,5 @@
 -- What an attempt and the main loop can come to, whatever the floats are.
-use Rattle.std.specs.Prelude.{◌≡◌, true, false, ◌⊎◌, ℕ, ◌+◌, ◌≤◌, ◌<◌}
+use Rattle.std.specs.Prelude.{◌≡◌, true, ◌⊎◌, ℕ, ◌+◌, ◌≤◌, ◌<◌}
 use Rattle.std.specs.Float.Ieee
 use Rattle.number.specs.Helpers.{abs_of}
 use Rattle.rules.specs.Types.{Progress, Turn, Status, Derivative, Success, UserInterrupt, NeedLargerNMax, StepSizeTooSmall, NewtonDerivative}

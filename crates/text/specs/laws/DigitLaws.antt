@@ -1,7 +1,6 @@
 -- How long numbers are as text, for those who must know that a line has room.
 use Rattle.std.specs.Prelude.{◌≡◌, refl, ℕ, zero, suc, ◌+◌, ◌/◌, ◌≤◌, ltb, length}
 use Rattle.std.proofs.Common.{arith, length-append}
-use Rattle.loops.specs.Choice.{if◌then◌else◌}
 use Rattle.loops.specs.laws.ChoiceLaws.{either}
 use Rattle.text.specs.Digits.{spelled, places_within, places_of}
 

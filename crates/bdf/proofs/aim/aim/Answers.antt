@@ -1,15 +1,14 @@
 -- `aim::aim`: by the test of its definition, on the way that `aim_of` gives. Assumes nothing.
-use borrow.Author.Rules.{rules}
-use Rattle.loops.specs.Choice.{if◌then◌else◌}
+use Rattle.loops.specs.Choice.{when◌then◌else◌}
 use Rattle.rules.specs.Attempt.{aimed}
 use Rattle.bdf.proofs.aim.aim.Goals as goal
 
 pub returns-then-p-a : goal.returns-then-p-a
-unfolding aimed if◌then◌else◌
+unfolding aimed when◌then◌else◌
 returns-then-p-a c =
     λ pivot. rw (rw c.aim_of-a.ensures at c.if-p-a.true) (c.cut_at_end.ensures pivot)
 
 pub returns : goal.returns
-unfolding aimed if◌then◌else◌
+unfolding aimed when◌then◌else◌
 returns c =
     λ pivot. rw (rw c.aim_of-a.ensures at c.if-p-a.false, c.aim_of-a.ensures)

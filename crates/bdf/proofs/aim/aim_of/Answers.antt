@@ -1,5 +1,4 @@
 -- `aim::aim_of`: alpha is the table's. Assumes nothing.
-use borrow.Author.Rules.{rules}
 use Rattle.bdf.proofs.aim.aim_of.Goals as goal
 
 pub returns : goal.returns

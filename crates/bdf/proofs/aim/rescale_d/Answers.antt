@@ -1,8 +1,7 @@
 -- `aim::rescale_d`: rows 0 to 7 are lent and come back as `change_d` makes them. Assumes nothing.
 use Rattle.std.specs.Prelude.{◌≡◌, ◌-◌, ◌*◌}
 use native.Mathlib.Omega.{arith}
-use borrow.Author.Rules.{rules}
-use Rattle.rules.specs.laws.LentLaws.{came_back}
+use Rattle.rules.proofs.laws.LentLaws.{came_back}
 use Rattle.rules.specs.Rescale.{change_d}
 use Rattle.rules.specs.Attempt.{rescaled_d}
 use Rattle.bdf.proofs.aim.rescale_d.Goals as goal

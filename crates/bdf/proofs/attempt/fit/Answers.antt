@@ -1,5 +1,4 @@
 -- `attempt::fit`: to the greatest step, then to the least. Assumes nothing.
-use borrow.Author.Rules.{rules}
 use Rattle.rules.specs.Attempt.{fitted}
 use Rattle.bdf.proofs.attempt.fit.Goals as goal
 

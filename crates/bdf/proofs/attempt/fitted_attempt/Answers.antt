@@ -1,5 +1,4 @@
 -- `attempt::fitted_attempt`: the step is fitted and aimed, and what that came to decides. Assumes nothing.
-use borrow.Author.Rules.{rules}
 use Rattle.rules.specs.Attempt.{fitted_attempt}
 use Rattle.bdf.proofs.attempt.fitted_attempt.Goals as goal
 

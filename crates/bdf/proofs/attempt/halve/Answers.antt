@@ -1,5 +1,4 @@
 -- `attempt::halve`: the differences are rescaled by a half, and the pace and a counter change. Assumes nothing.
-use borrow.Author.Rules.{rules}
 use Rattle.rules.specs.Attempt.{halved}
 use Rattle.bdf.proofs.attempt.halve.Goals as goal
 

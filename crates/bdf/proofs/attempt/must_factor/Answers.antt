@@ -1,5 +1,4 @@
 -- `attempt::must_factor`: the two halves of its test one after the other. Assumes nothing.
-use borrow.Author.Rules.{rules}
 use Rattle.rules.specs.Attempt.{must_factor}
 use Rattle.bdf.proofs.attempt.must_factor.Goals as goal
 

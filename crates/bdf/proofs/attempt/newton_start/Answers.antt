@@ -1,5 +1,4 @@
 -- `attempt::newton_start`: its callees one after the other. Assumes nothing.
-use borrow.Author.Rules.{rules}
 use Rattle.rules.specs.Attempt.{newton_start}
 use Rattle.bdf.proofs.attempt.newton_start.Goals as goal
 

@@ -1,6 +1,5 @@
 -- `attempt::tell`: a row lies within the workspace. Assumes nothing.
 use native.Mathlib.Omega.{arith}
-use borrow.Author.Rules.{rules}
 use Rattle.loops.specs.laws.RowLaws.{row_within}
 use Rattle.bdf.proofs.attempt.tell.Goals as goal
 

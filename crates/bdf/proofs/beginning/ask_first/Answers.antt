@@ -1,7 +1,6 @@
 -- `beginning::ask_first`: the workspace laid out, and y told. Assumes nothing.
-use borrow.Author.Rules.{rules}
 use native.Mathlib.Omega.{arith}
-use Rattle.rules.specs.laws.ReadyLaws.{room_kept}
+use Rattle.rules.proofs.laws.ReadyLaws.{room_kept}
 use Rattle.rules.specs.Begin.{ask_first}
 use Rattle.bdf.proofs.beginning.ask_first.Goals as goal
 

@@ -1,20 +1,18 @@
 -- `beginning::begin` goes by the checks of its definition, one answer a way; past them there is room for the run. Assumes nothing.
-use Rattle.std.specs.Prelude.{◌≡◌}
 use mathlib.Core.Path.{sym, ◌∙◌}
 use native.Mathlib.Omega.{arith}
-use borrow.Author.Rules.{rules}
 use borrow.Author.Tests.{lt-ltb, le-ltb, eq-eqb, ne_eqb}
-use Rattle.loops.specs.Choice.{if◌then◌else◌}
+use Rattle.loops.specs.Choice.{when◌then◌else◌}
 use Rattle.rules.specs.Begin.{begin_of}
-use Rattle.rules.specs.laws.CheckLaws.{cleared}
+use Rattle.rules.proofs.laws.CheckLaws.{cleared}
 use Rattle.bdf.proofs.beginning.begin.Goals as goal
 
 pub returns-then-n-gt-MAX_N : goal.returns-then-n-gt-MAX_N
-unfolding begin_of if◌then◌else◌
+unfolding begin_of when◌then◌else◌
 returns-then-n-gt-MAX_N c = rw (lt-ltb _ _ c.if-n-gt-MAX_N.true, c.nothing.ensures)
 
 pub returns-then-n-eq0 : goal.returns-then-n-eq0
-unfolding begin_of if◌then◌else◌
+unfolding begin_of when◌then◌else◌
 returns-then-n-eq0 c = rw (le-ltb _ _ c.if-n-gt-MAX_N.false, eq-eqb _ _ c.if-n-eq0.true, c.nothing-then-n-eq0.ensures)
 
 pub begin_run-requires : goal.begin_run-requires
@@ -23,11 +21,11 @@ begin_run-requires c =
     (omega (arith, c.if-n-eq0.false), c.if-n-gt-MAX_N.false, k.works, k.asks, k.relative, k.absolute)
 
 pub returns-in-Refuse : goal.returns-in-Refuse
-unfolding begin_of if◌then◌else◌
+unfolding begin_of when◌then◌else◌
 returns-in-Refuse c =
     rw (le-ltb _ _ c.if-n-gt-MAX_N.false, ne_eqb _ _ c.if-n-eq0.false, ← c.signum-direction.ensures, ← c.checked-c.ensures, c.in-Refuse.is, c.nothing-in-Refuse.ensures)
 
 pub returns-in-Passed : goal.returns-in-Passed
-unfolding begin_of if◌then◌else◌
+unfolding begin_of when◌then◌else◌
 returns-in-Passed c =
     rw (le-ltb _ _ c.if-n-gt-MAX_N.false, ne_eqb _ _ c.if-n-eq0.false, ← c.signum-direction.ensures, ← c.checked-c.ensures, c.in-Passed.is) c.begin_run.ensures

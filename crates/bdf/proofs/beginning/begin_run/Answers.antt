@@ -1,11 +1,9 @@
 -- `beginning::begin_run`: the needed places are lent, and what lies beyond them stays. Assumes nothing.
-use Rattle.std.specs.Prelude.{◌≡◌, ◌≤◌, length}
-use mathlib.Core.Path.{refl, sym, ap, ◌∙◌}
-use native.Mathlib.Omega.{arith}
-use borrow.Author.Rules.{rules}
+use Rattle.std.specs.Prelude.{◌≤◌, length}
+use mathlib.Core.Path.{sym, ap}
 use lib.Seq.{length-take-le}
 use Rattle.rules.specs.declared.types.Progress.{Progress}
-use Rattle.rules.specs.laws.NeededLaws.{room_needed, beyond_kept}
+use Rattle.rules.proofs.laws.NeededLaws.{room_needed, beyond_kept}
 use Rattle.rules.specs.Begin.{kept, begin_run}
 use Rattle.bdf.proofs.beginning.begin_run.Goals as goal
 

@@ -1,5 +1,4 @@
 -- `beginning::derived_tol` is its formula. Assumes nothing.
-use borrow.Author.Rules.{rules}
 use Rattle.rules.specs.Begin.{derived_tol}
 use Rattle.bdf.proofs.beginning.derived_tol.Goals as goal
 

@@ -1,5 +1,4 @@
 -- `beginning::kept`: each part by its own call. Assumes nothing.
-use borrow.Author.Rules.{rules}
 use Rattle.rules.specs.Begin.{kept}
 use Rattle.bdf.proofs.beginning.kept.Goals as goal
 

@@ -1,5 +1,4 @@
 -- `beginning::lay`: zeros, then the three vectors, each in its row of the 33. Assumes nothing.
-use borrow.Author.Rules.{rules}
 use Rattle.rules.specs.Begin.{begin_ws}
 use Rattle.bdf.proofs.beginning.lay.Goals as goal
 

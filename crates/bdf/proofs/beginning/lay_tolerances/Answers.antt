@@ -1,7 +1,6 @@
 -- `beginning::lay_tolerances` goes by the same cases as its definition. Assumes nothing.
 use native.Mathlib.Omega.{arith}
-use borrow.Author.Rules.{rules}
-use Rattle.rules.specs.laws.CheckLaws.{vector_reaches}
+use Rattle.rules.proofs.laws.CheckLaws.{vector_reaches}
 use Rattle.bdf.proofs.beginning.lay_tolerances.Goals as goal
 
 pub load-requires : goal.load-requires

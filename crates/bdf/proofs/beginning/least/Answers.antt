@@ -1,11 +1,8 @@
 -- `beginning::least`: one entry a turn, from infinity on. Assumes nothing.
-use Rattle.std.specs.Prelude.{◌-◌, false}
 use native.Mathlib.Omega.{arith}
-use borrow.Author.Rules.{rules}
-use lib.Ieee.{inf}
-use Rattle.loops.specs.laws.Turned.{Turned, turn_none, turn_more, turn_all}
+use Rattle.loops.specs.laws.Turned.{turn_none, turn_more, turn_all}
 use Rattle.rules.specs.Begin.{least_turn, least}
-use Rattle.rules.specs.laws.CheckLaws.{reaches_each}
+use Rattle.rules.proofs.laws.CheckLaws.{reaches_each}
 use Rattle.bdf.proofs.beginning.least.Goals as goal
 
 pub loop-i-init : goal.loop-i-init

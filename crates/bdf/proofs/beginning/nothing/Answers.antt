@@ -1,5 +1,4 @@
 -- `beginning::nothing`: a state with nothing done. Assumes nothing.
-use borrow.Author.Rules.{rules}
 use Rattle.bdf.proofs.beginning.nothing.Goals as goal
 
 pub returns : goal.returns

@@ -1,5 +1,4 @@
 -- `beginning::span`: each field by its own call. Assumes nothing.
-use borrow.Author.Rules.{rules}
 use Rattle.rules.specs.Begin.{span_of}
 use Rattle.bdf.proofs.beginning.span.Goals as goal
 

@@ -1,5 +1,4 @@
 -- `carried::end`: what it says. Assumes nothing.
-use borrow.Author.Rules.{rules}
 use Rattle.bdf.proofs.carried.end.Goals as goal
 
 pub returns : goal.returns

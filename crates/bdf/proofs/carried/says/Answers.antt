@@ -1,5 +1,4 @@
 -- `carried::says`: its fields. Assumes nothing.
-use borrow.Author.Rules.{rules}
 use mathlib.Core.Path.{refl}
 use Rattle.bdf.proofs.carried.says.Goals as goal
 

@@ -1,5 +1,4 @@
 -- `carried::turn`: its fields, with the state made whole. Assumes nothing.
-use borrow.Author.Rules.{rules}
 use Rattle.bdf.proofs.carried.turn.Goals as goal
 
 pub returns : goal.returns

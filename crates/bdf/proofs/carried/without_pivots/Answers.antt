@@ -1,5 +1,4 @@
 -- `carried::without_pivots`: its fields. Assumes nothing.
-use borrow.Author.Rules.{rules}
 use mathlib.Core.Path.{refl}
 use Rattle.bdf.proofs.carried.without_pivots.Goals as goal
 

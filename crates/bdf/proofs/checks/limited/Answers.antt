@@ -1,22 +1,21 @@
 -- `checks::limited` goes by the tests of its definition, one answer a way. Assumes nothing.
-use borrow.Author.Rules.{rules}
 use borrow.Author.Tests.{eq-eqb, ne_eqb, lt-ltb, le-ltb}
-use Rattle.loops.specs.Choice.{if◌then◌else◌}
+use Rattle.loops.specs.Choice.{when◌then◌else◌}
 use Rattle.rules.specs.Checks.{limited}
 use Rattle.bdf.proofs.checks.limited.Goals as goal
 
 pub returns-then-s-eq0 : goal.returns-then-s-eq0
-unfolding limited if◌then◌else◌
+unfolding limited when◌then◌else◌
 returns-then-s-eq0 c = rw (eq-eqb _ _ c.if-s-eq0.true)
 
 pub returns-then-s-gt1000000 : goal.returns-then-s-gt1000000
-unfolding limited if◌then◌else◌
+unfolding limited when◌then◌else◌
 returns-then-s-gt1000000 c = rw (ne_eqb _ _ c.if-s-eq0.false, lt-ltb _ _ c.if-s-gt1000000.true)
 
 pub returns-then-s-gt64 : goal.returns-then-s-gt64
-unfolding limited if◌then◌else◌
+unfolding limited when◌then◌else◌
 returns-then-s-gt64 c = rw (ne_eqb _ _ c.if-s-eq0.false, le-ltb _ _ c.if-s-gt1000000.false, lt-ltb _ _ c.if-s-gt64.true)
 
 pub returns : goal.returns
-unfolding limited if◌then◌else◌
+unfolding limited when◌then◌else◌
 returns c = rw (ne_eqb _ _ c.if-s-eq0.false, le-ltb _ _ c.if-s-gt1000000.false, le-ltb _ _ c.if-s-gt64.false) c.zero_step.ensures

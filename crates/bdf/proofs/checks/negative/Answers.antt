@@ -1,10 +1,9 @@
 -- `checks::negative`: what the search finds from index i on is what it finds from 0 on, since none below i is negative.
 -- Assumes nothing.
-use Rattle.std.specs.Prelude.{◌≡◌, ◌-◌, ◌≤◌}
-use mathlib.Core.Path.{refl, sym, ◌∙◌}
+use Rattle.std.specs.Prelude.{◌≡◌, ◌-◌}
+use mathlib.Core.Path.{sym, ◌∙◌}
 use native.Mathlib.Omega.{arith}
-use Rattle.rules.specs.Checks.{negative}
-use Rattle.rules.specs.laws.CheckLaws.{reaches_each, relative_found, absolute_found, none_negative_here, none_left}
+use Rattle.rules.proofs.laws.CheckLaws.{reaches_each, relative_found, absolute_found, none_negative_here, none_left}
 use Rattle.bdf.proofs.checks.negative.Goals as goal
 
 pub loop-i-init : goal.loop-i-init

@@ -1,8 +1,5 @@
 use Rattle.std.specs.Prelude.{◌≡◌, ◌-◌, ◌≤◌}
-use mathlib.Core.Path.{refl, sym, ◌∙◌}
-use native.Mathlib.Omega.{arith}
 use Rattle.rules.specs.Checks.{negative}
-use Rattle.rules.specs.laws.CheckLaws.{reaches_each, relative_found, absolute_found, none_negative_here, none_left}
 use Rattle.bdf.proofs.checks.negative.Given as goal
 
 abbrev pub invariant-loop-i : goal.invariant-loop-i

@@ -1,5 +1,4 @@
 -- `checks::reaches` goes by the same cases as its definition. Assumes nothing.
-use borrow.Author.Rules.{rules}
 use Rattle.bdf.proofs.checks.reaches.Goals as goal
 
 pub returns-in-Vector : goal.returns-in-Vector

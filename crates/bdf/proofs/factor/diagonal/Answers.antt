@@ -1,5 +1,4 @@
 -- `factor::diagonal`: one entry read, and one put. Assumes nothing.
-use borrow.Author.Rules.{rules}
 use Rattle.rules.specs.Factor.{diagonal}
 use Rattle.bdf.proofs.factor.diagonal.Goals as goal
 

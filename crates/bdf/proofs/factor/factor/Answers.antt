@@ -1,6 +1,5 @@
 -- `factor::factor`: the matrix, then lu_decomp on the part where it stands and on the first n pivots; whatever it answers, what
 -- it left there is kept. Assumes nothing.
-use borrow.Author.Rules.{rules}
 use Rattle.std.specs.Prelude.{◌≡◌, ℕ, ◌+◌, ◌-◌, ◌*◌, Bool, List, ◌++◌, take, drop}
 use mathlib.Core.Path.{ap}
 use native.Mathlib.Omega.{arith}

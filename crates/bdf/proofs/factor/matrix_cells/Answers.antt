@@ -1,8 +1,7 @@
 -- `factor::matrix_cells`: one entry of row r a turn. Assumes nothing.
-use Rattle.std.specs.Prelude.{◌≡◌, ◌-◌, length}
 use mathlib.Core.Path.{refl}
 use native.Mathlib.Omega.{arith}
-use Rattle.loops.specs.laws.Turned.{Turned, turn_none, turn_more, turn_all}
+use Rattle.loops.specs.laws.Turned.{turn_none, turn_more, turn_all}
 use Rattle.rules.specs.Factor.{matrix_turn, matrix_cells}
 use Rattle.bdf.proofs.factor.matrix_cells.Goals as goal
 

@@ -1,8 +1,6 @@
 use Rattle.std.specs.Prelude.{◌≡◌, ◌-◌, length}
-use mathlib.Core.Path.{refl}
-use native.Mathlib.Omega.{arith}
-use Rattle.loops.specs.laws.Turned.{Turned, turn_none, turn_more, turn_all}
-use Rattle.rules.specs.Factor.{matrix_turn, matrix_cells}
+use Rattle.loops.specs.laws.Turned.{Turned}
+use Rattle.rules.specs.Factor.{matrix_turn}
 use Rattle.bdf.proofs.factor.matrix_cells.Given as goal
 
 abbrev pub invariant-loop-j : goal.invariant-loop-j

@@ -1,8 +1,7 @@
 -- `factor::matrix_rows`: one row a turn, with its diagonal. Assumes nothing.
-use Rattle.std.specs.Prelude.{◌≡◌, ◌-◌, length}
 use mathlib.Core.Path.{refl}
 use native.Mathlib.Omega.{arith}
-use Rattle.loops.specs.laws.Turned.{Turned, turn_none, turn_more, turn_all}
+use Rattle.loops.specs.laws.Turned.{turn_none, turn_more, turn_all}
 use Rattle.rules.specs.Factor.{matrix_row, matrix}
 use Rattle.bdf.proofs.factor.matrix_rows.Goals as goal
 

@@ -1,8 +1,6 @@
 use Rattle.std.specs.Prelude.{◌≡◌, ◌-◌, length}
-use mathlib.Core.Path.{refl}
-use native.Mathlib.Omega.{arith}
-use Rattle.loops.specs.laws.Turned.{Turned, turn_none, turn_more, turn_all}
-use Rattle.rules.specs.Factor.{matrix_row, matrix}
+use Rattle.loops.specs.laws.Turned.{Turned}
+use Rattle.rules.specs.Factor.{matrix_row}
 use Rattle.bdf.proofs.factor.matrix_rows.Given as goal
 
 abbrev pub invariant-loop-r : goal.invariant-loop-r

@@ -1,10 +1,9 @@
 -- `going_on::counters_damaged`: past the bounds of the limits and the steps no product or sum wraps. Assumes nothing.
 use mathlib.Core.Path.{sym, ◌∙◌}
 use native.Mathlib.Omega.{arith}
-use borrow.Author.Rules.{rules}
 use borrow.Author.Tests.{lt-ltb, le-ltb}
 use Rattle.rules.specs.GoOn.{counters_damaged}
-use Rattle.rules.specs.laws.DamageLaws.{derivatives_bounded}
+use Rattle.rules.proofs.laws.DamageLaws.{derivatives_bounded}
 use Rattle.bdf.proofs.going_on.counters_damaged.Goals as goal
 
 pub returns-then-steps_damaged : goal.returns-then-steps_damaged

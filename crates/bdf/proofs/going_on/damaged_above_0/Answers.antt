@@ -1,6 +1,4 @@
 -- `going_on::damaged_above_0` goes through the list of damage, one answer a way. Assumes nothing.
-use borrow.Author.Rules.{rules}
-use Rattle.std.specs.Prelude.{◌≡◌}
 use mathlib.Core.Path.{sym, ◌∙◌}
 use borrow.Author.Tests.{le-leb, lt-leb}
 use Rattle.rules.specs.GoOn.{damaged_above0}

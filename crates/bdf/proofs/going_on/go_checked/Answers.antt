@@ -1,19 +1,17 @@
 -- `going_on::go_checked` goes by the tests of its definition, one answer a way. Assumes nothing.
-use borrow.Author.Rules.{rules}
-use Rattle.std.specs.Prelude.{◌≡◌}
 use mathlib.Core.Path.{sym, ◌∙◌}
-use Rattle.loops.specs.Choice.{if◌then◌else◌}
+use Rattle.loops.specs.Choice.{when◌then◌else◌}
 use Rattle.rules.specs.GoOn.{go_checked}
-use Rattle.rules.specs.laws.GoOnLaws.{few_undamaged}
+use Rattle.rules.proofs.laws.GoOnLaws.{few_undamaged}
 use Rattle.bdf.proofs.going_on.go_checked.Goals as goal
 
 pub returns-then-damaged : goal.returns-then-damaged
-unfolding go_checked if◌then◌else◌
+unfolding go_checked when◌then◌else◌
 returns-then-damaged c =
     rw (← c.damaged.ensures, c.if-damaged.true)
 
 pub returns-then-is_ended : goal.returns-then-is_ended
-unfolding go_checked if◌then◌else◌
+unfolding go_checked when◌then◌else◌
 returns-then-is_ended c =
     rw (← c.damaged.ensures, c.if-damaged.false, ← c.is_ended.ensures, c.if-is_ended.true)
 
@@ -26,6 +24,6 @@ count_checked-requires c =
     few_undamaged c.args.w c.args.p (sym c.damaged.ensures ∙ c.if-damaged.false)
 
 pub returns : goal.returns
-unfolding go_checked if◌then◌else◌
+unfolding go_checked when◌then◌else◌
 returns c =
     rw (← c.damaged.ensures, c.if-damaged.false, ← c.is_ended.ensures, c.if-is_ended.false, ← c.wanted-v.ensures) c.count_checked.ensures

@@ -1,10 +1,8 @@
 -- `going_on::go_said`: past the checks the state, the slices and the reply are as the run's stages ask. Assumes nothing.
-use borrow.Author.Rules.{rules}
-use Rattle.std.specs.Prelude.{◌≡◌}
-use mathlib.Core.Path.{sym, ap, ◌∙◌}
+use mathlib.Core.Path.{sym, ◌∙◌}
 use native.Mathlib.Omega.{arith}
 use Rattle.rules.specs.GoOn.{go_on_of}
-use Rattle.rules.specs.laws.GoOnLaws.{handed}
+use Rattle.rules.proofs.laws.GoOnLaws.{handed}
 use Rattle.bdf.proofs.CoreLaws.{handed_of, said_turn}
 use Rattle.bdf.proofs.going_on.go_said.Goals as goal
 

@@ -1,10 +1,9 @@
 -- `going_on::go_within`: the needed places are lent, and what lies beyond them stays. Assumes nothing.
-use borrow.Author.Rules.{rules}
-use Rattle.std.specs.Prelude.{◌≡◌, ◌≤◌, length}
+use Rattle.std.specs.Prelude.{◌≤◌, length}
 use mathlib.Core.Path.{sym}
 use native.Mathlib.Omega.{arith}
 use lib.Seq.{length-take-le}
-use Rattle.rules.specs.laws.NeededLaws.{beyond_kept}
+use Rattle.rules.proofs.laws.NeededLaws.{beyond_kept}
 use Rattle.rules.specs.GoOn.{go_within}
 use Rattle.bdf.proofs.going_on.go_within.Goals as goal
 

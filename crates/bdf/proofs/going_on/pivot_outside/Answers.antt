@@ -1,12 +1,10 @@
 -- `going_on::pivot_outside`: none found below i; the first that is found decides. Assumes nothing.
-use borrow.Author.Rules.{rules}
-use Rattle.std.specs.Prelude.{◌≡◌, ◌-◌, false}
 use mathlib.Core.Path.{sym}
 use native.Mathlib.Omega.{arith}
 use borrow.Author.Tests.{lt-leb}
-use Rattle.loops.specs.laws.Turned.{Turned, turn_none, turn_more, turn_all}
+use Rattle.loops.specs.laws.Turned.{turn_none, turn_more, turn_all}
 use Rattle.rules.specs.GoOn.{pivot_turn, pivot_outside}
-use Rattle.rules.specs.laws.DamageLaws.{pivot_found}
+use Rattle.rules.proofs.laws.DamageLaws.{pivot_found}
 use Rattle.bdf.proofs.going_on.pivot_outside.Goals as goal
 
 pub loop-i-init : goal.loop-i-init
@@ -16,12 +14,12 @@ loop-i-init c =
 -- LOST add-loop : tie.Need-overflow-add-loop invariant-loop decreases-loop
 -- LOST add-loop c =
 -- LOST     omega arith
--- LOST 
+-- LOST
 
 -- LOST mul-if1 : tie.Need-overflow-mul-if1 invariant-loop decreases-loop
 -- LOST mul-if1 c =
 -- LOST     omega arith
--- LOST 
+-- LOST
 
 pub bounds-pivot-i : goal.bounds-pivot-i
 bounds-pivot-i c =

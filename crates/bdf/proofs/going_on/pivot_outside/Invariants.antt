@@ -1,11 +1,6 @@
-use borrow.Author.Rules.{rules}
-use Rattle.std.specs.Prelude.{◌≡◌, ◌-◌, false}
-use mathlib.Core.Path.{sym}
-use native.Mathlib.Omega.{arith}
-use borrow.Author.Tests.{lt-leb}
-use Rattle.loops.specs.laws.Turned.{Turned, turn_none, turn_more, turn_all}
-use Rattle.rules.specs.GoOn.{pivot_turn, pivot_outside}
-use Rattle.rules.specs.laws.DamageLaws.{pivot_found}
+use Rattle.std.specs.Prelude.{◌-◌, false}
+use Rattle.loops.specs.laws.Turned.{Turned}
+use Rattle.rules.specs.GoOn.{pivot_turn}
 use Rattle.bdf.proofs.going_on.pivot_outside.Given as goal
 
 abbrev pub invariant-loop-i : goal.invariant-loop-i

@@ -1,9 +1,7 @@
 -- `going_on::steps_damaged` tells the sum's bound by a difference. Assumes nothing.
-use native.Mathlib.Omega.{arith}
-use borrow.Author.Rules.{rules}
 use borrow.Author.Tests.{lt-ltb, le-ltb}
 use Rattle.rules.specs.GoOn.{steps_damaged}
-use Rattle.rules.specs.laws.DamageLaws.{rejected_above, accepted_above, within_total}
+use Rattle.rules.proofs.laws.DamageLaws.{rejected_above, accepted_above, within_total}
 use Rattle.bdf.proofs.going_on.steps_damaged.Goals as goal
 
 pub returns-then-p : goal.returns-then-p

@@ -1,5 +1,4 @@
 -- `going_on::values` goes by the same cases as its definition. Assumes nothing.
-use borrow.Author.Rules.{rules}
 use Rattle.bdf.proofs.going_on.values.Goals as goal
 
 pub returns-in-Values : goal.returns-in-Values

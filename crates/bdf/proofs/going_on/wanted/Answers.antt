@@ -1,9 +1,5 @@
 -- `going_on::wanted`: each arm has the places that its reply suits. Assumes nothing.
 use Rattle.std.specs.Prelude.{◌≡◌, [], ◌∷◌}
-use mathlib.Core.Path.{refl}
-use native.Mathlib.Nat.{mul-le-mul}
-use native.Mathlib.Omega.{arith}
-use borrow.Author.Rules.{rules}
 use Rattle.rules.specs.declared.types.Awaited.{Awaited}
 use Rattle.rules.specs.Replies.{wants}
 use Rattle.bdf.proofs.AwaitedLaws.{of_one}
@@ -11,7 +7,7 @@ use Rattle.bdf.proofs.going_on.wanted.Goals as goal
 
 -- LOST mul-values : tie.Need-overflow-mul-values
 -- LOST mul-values c = omega (arith, mul-le-mul c.before.requires c.before.requires)
--- LOST 
+-- LOST
 
 pub returns-in-StartNotice : goal.returns-in-StartNotice
 returns-in-StartNotice c =

@@ -1,5 +1,4 @@
 -- `going_on::word` goes by the same cases as its definition. Assumes nothing.
-use borrow.Author.Rules.{rules}
 use Rattle.bdf.proofs.going_on.word.Goals as goal
 
 pub returns-in-Modified : goal.returns-in-Modified

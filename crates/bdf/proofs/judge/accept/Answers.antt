@@ -1,5 +1,4 @@
 -- `judge::accept`: its stages one after the other. Assumes nothing.
-use borrow.Author.Rules.{rules}
 use Rattle.rules.specs.Judge.{accepted_ws}
 use Rattle.bdf.proofs.judge.accept.Goals as goal
 

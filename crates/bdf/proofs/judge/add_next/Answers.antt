@@ -1,9 +1,8 @@
 -- `judge::add_next`: one place of row k a turn. Assumes nothing.
-use Rattle.std.specs.Prelude.{◌≡◌, ◌-◌, length}
 use mathlib.Core.Path.{refl}
 use native.Mathlib.Omega.{arith}
-use Rattle.loops.specs.laws.Turned.{Turned, turn_none, turn_more, turn_all}
-use Rattle.rules.specs.laws.ReadyLaws.{room_kept}
+use Rattle.loops.specs.laws.Turned.{turn_none, turn_more, turn_all}
+use Rattle.rules.proofs.laws.ReadyLaws.{room_kept}
 use Rattle.rules.specs.Judge.{add_next_turn, add_next}
 use Rattle.bdf.proofs.judge.add_next.Goals as goal
 

@@ -1,6 +1,5 @@
 -- `judge::coefficient`: the test of its definition, both ways. Assumes nothing.
 use mathlib.Core.Path.{sym, ◌∙◌}
-use borrow.Author.Rules.{rules}
 use borrow.Author.Tests.{lt-ltb, le-ltb}
 use Rattle.loops.specs.laws.ChoiceLaws.{when_true, when_false}
 use Rattle.rules.specs.Judge.{coeff}

@@ -1,11 +1,11 @@
 -- `judge::prepare`: the seven coefficients of one component a turn. Assumes nothing.
-use Rattle.std.specs.Prelude.{◌≡◌, ◌-◌, ◌^◌, length}
+use Rattle.std.specs.Prelude.{◌^◌}
 use mathlib.Core.Path.{refl}
 use native.Mathlib.Omega.{arith}
 use lib.Dec.{le→leb}
 use lib.Ieee.{in_float}
-use Rattle.loops.specs.laws.Turned.{Turned, turn_none, turn_more, turn_all}
-use Rattle.rules.specs.laws.ReadyLaws.{room_kept}
+use Rattle.loops.specs.laws.Turned.{turn_none, turn_more, turn_all}
+use Rattle.rules.proofs.laws.ReadyLaws.{room_kept}
 use Rattle.rules.specs.Judge.{cont_turn, prepared}
 use Rattle.bdf.proofs.judge.prepare.Goals as goal
 

@@ -1,11 +1,6 @@
-use Rattle.std.specs.Prelude.{◌≡◌, ◌-◌, ◌^◌, length}
-use mathlib.Core.Path.{refl}
-use native.Mathlib.Omega.{arith}
-use lib.Dec.{le→leb}
-use lib.Ieee.{in_float}
-use Rattle.loops.specs.laws.Turned.{Turned, turn_none, turn_more, turn_all}
-use Rattle.rules.specs.laws.ReadyLaws.{room_kept}
-use Rattle.rules.specs.Judge.{cont_turn, prepared}
+use Rattle.std.specs.Prelude.{◌≡◌, ◌-◌, length}
+use Rattle.loops.specs.laws.Turned.{Turned}
+use Rattle.rules.specs.Judge.{cont_turn}
 use Rattle.bdf.proofs.judge.prepare.Given as goal
 
 abbrev pub invariant-loop-i : goal.invariant-loop-i

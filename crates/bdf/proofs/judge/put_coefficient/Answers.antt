@@ -1,6 +1,4 @@
 -- `judge::put_coefficient`: the 7 n coefficients fill the last rows. Assumes nothing.
-use borrow.Author.Rules.{rules}
-use native.Mathlib.Omega.{arith}
 use lib.ListN.{length-set}
 use Rattle.bdf.proofs.judge.put_coefficient.Goals as goal
 

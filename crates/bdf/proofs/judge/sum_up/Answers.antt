@@ -1,9 +1,8 @@
 -- `judge::sum_up`: one row a turn, from row order down. Assumes nothing.
-use Rattle.std.specs.Prelude.{◌≡◌, ◌+◌, ◌-◌, length}
 use mathlib.Core.Path.{refl}
 use native.Mathlib.Omega.{arith}
-use Rattle.loops.specs.laws.Turned.{Turned, turn_none, turn_more, turn_all}
-use Rattle.rules.specs.laws.ReadyLaws.{room_kept}
+use Rattle.loops.specs.laws.Turned.{turn_none, turn_more, turn_all}
+use Rattle.rules.proofs.laws.ReadyLaws.{room_kept}
 use Rattle.rules.specs.Judge.{summed_turn, summed}
 use Rattle.bdf.proofs.judge.sum_up.Goals as goal
 

@@ -1,9 +1,6 @@
 use Rattle.std.specs.Prelude.{◌≡◌, ◌+◌, ◌-◌, length}
-use mathlib.Core.Path.{refl}
-use native.Mathlib.Omega.{arith}
-use Rattle.loops.specs.laws.Turned.{Turned, turn_none, turn_more, turn_all}
-use Rattle.rules.specs.laws.ReadyLaws.{room_kept}
-use Rattle.rules.specs.Judge.{summed_turn, summed}
+use Rattle.loops.specs.laws.Turned.{Turned}
+use Rattle.rules.specs.Judge.{summed_turn}
 use Rattle.bdf.proofs.judge.sum_up.Given as goal
 
 abbrev pub invariant-loop-j : goal.invariant-loop-j

@@ -1,9 +1,8 @@
 -- `moves::copy`: one place a turn, from the same list. Assumes nothing.
-use Rattle.std.specs.Prelude.{◌≡◌, ◌-◌, length}
 use mathlib.Core.Path.{refl}
 use native.Mathlib.Omega.{arith}
 use lib.ListN.{length-set}
-use Rattle.loops.specs.laws.Turned.{Turned, turn_none, turn_more, turn_all}
+use Rattle.loops.specs.laws.Turned.{turn_none, turn_more, turn_all}
 use Rattle.rules.specs.Moves.{copy_turn, copied}
 use Rattle.bdf.proofs.moves.copy.Goals as goal
 

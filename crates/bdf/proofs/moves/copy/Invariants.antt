@@ -1,9 +1,6 @@
 use Rattle.std.specs.Prelude.{◌≡◌, ◌-◌, length}
-use mathlib.Core.Path.{refl}
-use native.Mathlib.Omega.{arith}
-use lib.ListN.{length-set}
-use Rattle.loops.specs.laws.Turned.{Turned, turn_none, turn_more, turn_all}
-use Rattle.rules.specs.Moves.{copy_turn, copied}
+use Rattle.loops.specs.laws.Turned.{Turned}
+use Rattle.rules.specs.Moves.{copy_turn}
 use Rattle.bdf.proofs.moves.copy.Given as goal
 
 abbrev pub invariant-loop-i : goal.invariant-loop-i

@@ -1,9 +1,8 @@
 -- `moves::load`: one place a turn, from another list. Assumes nothing.
-use Rattle.std.specs.Prelude.{◌≡◌, ◌-◌, length}
 use mathlib.Core.Path.{refl}
 use native.Mathlib.Omega.{arith}
 use lib.ListN.{length-set}
-use Rattle.loops.specs.laws.Turned.{Turned, turn_none, turn_more, turn_all}
+use Rattle.loops.specs.laws.Turned.{turn_none, turn_more, turn_all}
 use Rattle.rules.specs.Moves.{load_turn, loaded}
 use Rattle.bdf.proofs.moves.load.Goals as goal
 

@@ -1,9 +1,6 @@
 use Rattle.std.specs.Prelude.{◌≡◌, ◌-◌, length}
-use mathlib.Core.Path.{refl}
-use native.Mathlib.Omega.{arith}
-use lib.ListN.{length-set}
-use Rattle.loops.specs.laws.Turned.{Turned, turn_none, turn_more, turn_all}
-use Rattle.rules.specs.Moves.{load_turn, loaded}
+use Rattle.loops.specs.laws.Turned.{Turned}
+use Rattle.rules.specs.Moves.{load_turn}
 use Rattle.bdf.proofs.moves.load.Given as goal
 
 abbrev pub invariant-loop-i : goal.invariant-loop-i

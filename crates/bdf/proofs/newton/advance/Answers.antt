@@ -1,8 +1,7 @@
 -- `newton::advance`: one component of y_new and of delta a turn. Assumes nothing.
-use Rattle.std.specs.Prelude.{◌≡◌, ◌-◌, length}
 use mathlib.Core.Path.{refl}
 use native.Mathlib.Omega.{arith}
-use Rattle.loops.specs.laws.Turned.{Turned, turn_none, turn_more, turn_all}
+use Rattle.loops.specs.laws.Turned.{turn_none, turn_more, turn_all}
 use Rattle.rules.specs.Newton.{advance_turn, advanced}
 use Rattle.bdf.proofs.newton.advance.Goals as goal
 

@@ -1,8 +1,6 @@
 use Rattle.std.specs.Prelude.{◌≡◌, ◌-◌, length}
-use mathlib.Core.Path.{refl}
-use native.Mathlib.Omega.{arith}
-use Rattle.loops.specs.laws.Turned.{Turned, turn_none, turn_more, turn_all}
-use Rattle.rules.specs.Newton.{advance_turn, advanced}
+use Rattle.loops.specs.laws.Turned.{Turned}
+use Rattle.rules.specs.Newton.{advance_turn}
 use Rattle.bdf.proofs.newton.advance.Given as goal
 
 abbrev pub invariant-loop-i : goal.invariant-loop-i

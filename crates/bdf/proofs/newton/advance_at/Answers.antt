@@ -1,5 +1,4 @@
 -- `newton::advance_at`: two components read, and one put. Assumes nothing.
-use borrow.Author.Rules.{rules}
 use Rattle.bdf.proofs.newton.advance_at.Goals as goal
 
 pub returns : goal.returns

@@ -1,5 +1,4 @@
 -- `newton::correct`: its callees one after the other. Assumes nothing.
-use borrow.Author.Rules.{rules}
 use Rattle.rules.specs.Newton.{correction}
 use Rattle.bdf.proofs.newton.correct.Goals as goal
 

@@ -1,9 +1,7 @@
 -- `newton::power`: one factor a turn. Assumes nothing.
-use Rattle.std.specs.Prelude.{◌-◌}
 use mathlib.Core.Path.{refl}
 use native.Mathlib.Omega.{arith}
-use Rattle.loops.specs.laws.Turned.{Turned, turn_none, turn_more, turn_all}
-use Rattle.loops.specs.Arithmetic.{one}
+use Rattle.loops.specs.laws.Turned.{turn_none, turn_more, turn_all}
 use Rattle.rules.specs.Newton.{power_turn, power}
 use Rattle.bdf.proofs.newton.power.Goals as goal
 

@@ -1,9 +1,7 @@
 use Rattle.std.specs.Prelude.{◌-◌}
-use mathlib.Core.Path.{refl}
-use native.Mathlib.Omega.{arith}
-use Rattle.loops.specs.laws.Turned.{Turned, turn_none, turn_more, turn_all}
+use Rattle.loops.specs.laws.Turned.{Turned}
 use Rattle.loops.specs.Arithmetic.{one}
-use Rattle.rules.specs.Newton.{power_turn, power}
+use Rattle.rules.specs.Newton.{power_turn}
 use Rattle.bdf.proofs.newton.power.Given as goal
 
 abbrev pub invariant-loop-i : goal.invariant-loop-i

@@ -1,8 +1,7 @@
 -- `newton::residual`: one component a turn. Assumes nothing.
-use Rattle.std.specs.Prelude.{◌≡◌, ◌-◌, length}
 use mathlib.Core.Path.{refl}
 use native.Mathlib.Omega.{arith}
-use Rattle.loops.specs.laws.Turned.{Turned, turn_none, turn_more, turn_all}
+use Rattle.loops.specs.laws.Turned.{turn_none, turn_more, turn_all}
 use Rattle.rules.specs.Newton.{residual_turn, residual}
 use Rattle.bdf.proofs.newton.residual.Goals as goal
 

@@ -1,5 +1,4 @@
 -- `newton::solve`: n of the array's 32 places serve. Assumes nothing.
-use borrow.Author.Rules.{rules}
 use native.Mathlib.Omega.{arith}
 use lib.ListN.{length-take}
 use Rattle.bdf.proofs.newton.solve.Goals as goal

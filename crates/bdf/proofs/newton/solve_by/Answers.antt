@@ -1,5 +1,4 @@
 -- `newton::solve_by`: b takes the right side, lin_solve puts the solution in its place, and rhs takes that. Assumes nothing.
-use borrow.Author.Rules.{rules}
 use Rattle.std.specs.Prelude.{◌≡◌, ℕ, ◌+◌, ◌-◌, ◌*◌, ◌≤◌, List, length, take}
 use mathlib.Core.Path.{◌∙◌}
 use native.Mathlib.Omega.{arith}
@@ -10,7 +9,7 @@ use Rattle.loops.specs.Refusal.{Outcome}
 use Rattle.matrix.specs.Linear.{lin_solve_of, SolveOutcome}
 use Rattle.rules.specs.Places.{rhs, row}
 use Rattle.rules.specs.Moves.{loaded}
-use Rattle.rules.specs.laws.PartLaws.{loaded_whole, loaded_part}
+use Rattle.rules.proofs.laws.PartLaws.{loaded_whole, loaded_part}
 use Rattle.rules.specs.Newton.{solved}
 use Rattle.bdf.proofs.newton.solve_by.Goals as goal
 

@@ -1,6 +1,5 @@
 -- `norm::rhs_norm`: the root of the mean of the squares. Assumes nothing.
 use Rattle.std.specs.Prelude.{◌^◌}
-use borrow.Author.Rules.{rules}
 use native.Mathlib.Omega.{arith}
 use lib.Dec.{le→leb}
 use lib.Ieee.{in_float}

@@ -1,8 +1,6 @@
 -- `norm::sum_of_squares`: one component a turn. Assumes nothing.
-use Rattle.std.specs.Prelude.{◌-◌}
 use native.Mathlib.Omega.{arith}
-use borrow.Author.Rules.{rules}
-use Rattle.loops.specs.laws.Turned.{Turned, turn_none, turn_more, turn_all}
+use Rattle.loops.specs.laws.Turned.{turn_none, turn_more, turn_all}
 use Rattle.rules.specs.Norm.{square_turn, sum_of_squares}
 use Rattle.bdf.proofs.norm.sum_of_squares.Goals as goal
 

@@ -1,8 +1,6 @@
 use Rattle.std.specs.Prelude.{◌-◌}
-use native.Mathlib.Omega.{arith}
-use borrow.Author.Rules.{rules}
-use Rattle.loops.specs.laws.Turned.{Turned, turn_none, turn_more, turn_all}
-use Rattle.rules.specs.Norm.{square_turn, sum_of_squares}
+use Rattle.loops.specs.laws.Turned.{Turned}
+use Rattle.rules.specs.Norm.{square_turn}
 use Rattle.bdf.proofs.norm.sum_of_squares.Given as goal
 
 abbrev pub invariant-loop-i : goal.invariant-loop-i

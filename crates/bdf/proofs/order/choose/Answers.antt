@@ -1,5 +1,4 @@
 -- `order::choose`: its callees one after the other. Assumes nothing.
-use borrow.Author.Rules.{rules}
 use native.Mathlib.Nat.{add-zero}
 use Rattle.rules.specs.Order.{choice_of}
 use Rattle.bdf.proofs.order.choose.Goals as goal

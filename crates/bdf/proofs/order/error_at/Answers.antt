@@ -1,5 +1,4 @@
 -- `order::error_at`: the weighing, then the norm of what it left. Assumes nothing.
-use borrow.Author.Rules.{rules}
 use Rattle.rules.specs.Order.{error_at}
 use Rattle.bdf.proofs.order.error_at.Goals as goal
 

@@ -1,9 +1,8 @@
 -- `order::factor`: for k from 1 to 7 the inverse root is given and not refused. Assumes nothing.
 use Rattle.std.specs.Prelude.{◌≡◌, ℕ, ◌≤◌}
-use borrow.Author.Rules.{rules}
 use borrow.Author.Tests.{le-leb}
 use lib.Ieee.{Float}
-use Rattle.loops.specs.Choice.{if◌then◌else◌}
+use Rattle.loops.specs.Choice.{when◌then◌else◌}
 use Rattle.loops.specs.Refusal.{gives, refuses}
 use Rattle.roots.specs.declared.Root.{Root}
 use Rattle.roots.specs.declared.Root.TheVariants.{Value, KOutside}
@@ -11,7 +10,7 @@ use Rattle.roots.specs.Roots.{inverse_root, inverse_root_of, root_said}
 use Rattle.bdf.proofs.order.factor.Goals as goal
 
 answers : (k : ℕ) (x : Float) → 1 ≤ k → k ≤ 7 → inverse_root_of k x ≡ gives (inverse_root k x)
-unfolding inverse_root_of if◌then◌else◌
+unfolding inverse_root_of when◌then◌else◌
 answers k x some few = rw (le-leb 1 k some, le-leb k 7 few)
 
 root_given : (k : ℕ) (x v : Float) (r : Root) → 1 ≤ k → k ≤ 7 → root_said r ≡ inverse_root_of k x → r ≡ Value v → v ≡ inverse_root k x

@@ -1,5 +1,4 @@
 -- `order::step_factor`: its callees one after the other. Assumes nothing.
-use borrow.Author.Rules.{rules}
 use Rattle.rules.specs.Order.{step_factor}
 use Rattle.bdf.proofs.order.step_factor.Goals as goal
 

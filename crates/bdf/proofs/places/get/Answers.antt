@@ -1,5 +1,4 @@
 -- `places::get`: row v of 33 lies within the needed places. Assumes nothing.
-use borrow.Author.Rules.{rules}
 use native.Mathlib.Omega.{arith}
 use Rattle.loops.specs.laws.RowLaws.{row_within}
 use Rattle.bdf.proofs.places.get.Goals as goal

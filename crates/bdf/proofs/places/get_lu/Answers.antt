@@ -1,5 +1,4 @@
 -- `places::get_lu`: a cell lies within the second n * n places. Assumes nothing.
-use borrow.Author.Rules.{rules}
 use native.Mathlib.Omega.{arith}
 use Rattle.loops.specs.laws.RowLaws.{inside}
 use Rattle.bdf.proofs.places.get_lu.Goals as goal

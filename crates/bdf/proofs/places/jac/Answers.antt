@@ -1,5 +1,4 @@
 -- `places::jac`: a cell lies within the first n * n places. Assumes nothing.
-use borrow.Author.Rules.{rules}
 use native.Mathlib.Omega.{arith}
 use Rattle.loops.specs.laws.RowLaws.{inside}
 use Rattle.bdf.proofs.places.jac.Goals as goal

@@ -1,5 +1,4 @@
 -- `places::put`: row v of 33 lies within the needed places. Assumes nothing.
-use borrow.Author.Rules.{rules}
 use native.Mathlib.Omega.{arith}
 use lib.ListN.{length-set}
 use Rattle.loops.specs.laws.RowLaws.{row_within}

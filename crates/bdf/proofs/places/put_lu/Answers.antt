@@ -1,5 +1,4 @@
 -- `places::put_lu`: a cell lies within the second n * n places. Assumes nothing.
-use borrow.Author.Rules.{rules}
 use native.Mathlib.Omega.{arith}
 use lib.ListN.{length-set}
 use Rattle.loops.specs.laws.RowLaws.{inside}

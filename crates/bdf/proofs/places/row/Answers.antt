@@ -1,6 +1,5 @@
 -- `places::row`: with n at most 32 no product wraps. Assumes nothing.
 use native.Mathlib.Nat.{mul-le-mul}
-use borrow.Author.Rules.{rules}
 use native.Mathlib.Omega.{arith}
 use Rattle.bdf.proofs.places.row.Goals as goal
 

@@ -1,7 +1,6 @@
 -- `predict::predicted`: one difference a turn. Assumes nothing.
-use Rattle.std.specs.Prelude.{◌+◌, ◌-◌}
 use native.Mathlib.Omega.{arith}
-use Rattle.loops.specs.laws.Turned.{Turned, turn_none, turn_more, turn_all}
+use Rattle.loops.specs.laws.Turned.{turn_none, turn_more, turn_all}
 use Rattle.rules.specs.Predict.{predicted_turn, predicted}
 use Rattle.bdf.proofs.predict.predicted.Goals as goal
 

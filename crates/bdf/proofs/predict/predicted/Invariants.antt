@@ -1,7 +1,6 @@
 use Rattle.std.specs.Prelude.{◌+◌, ◌-◌}
-use native.Mathlib.Omega.{arith}
-use Rattle.loops.specs.laws.Turned.{Turned, turn_none, turn_more, turn_all}
-use Rattle.rules.specs.Predict.{predicted_turn, predicted}
+use Rattle.loops.specs.laws.Turned.{Turned}
+use Rattle.rules.specs.Predict.{predicted_turn}
 use Rattle.bdf.proofs.predict.predicted.Given as goal
 
 abbrev pub invariant-loop-k : goal.invariant-loop-k

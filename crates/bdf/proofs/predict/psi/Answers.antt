@@ -1,9 +1,8 @@
 -- `predict::psi`: one component a turn. Assumes nothing.
-use Rattle.std.specs.Prelude.{◌≡◌, ◌-◌, length}
 use mathlib.Core.Path.{refl}
 use native.Mathlib.Omega.{arith}
-use Rattle.loops.specs.laws.Turned.{Turned, turn_none, turn_more, turn_all}
-use Rattle.rules.specs.laws.ReadyLaws.{room_kept}
+use Rattle.loops.specs.laws.Turned.{turn_none, turn_more, turn_all}
+use Rattle.rules.proofs.laws.ReadyLaws.{room_kept}
 use Rattle.rules.specs.Predict.{psi_turn, psied}
 use Rattle.bdf.proofs.predict.psi.Goals as goal
 

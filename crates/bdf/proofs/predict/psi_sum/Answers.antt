@@ -1,7 +1,6 @@
 -- `predict::psi_sum`: one difference a turn. Assumes nothing.
-use Rattle.std.specs.Prelude.{◌+◌, ◌-◌}
 use native.Mathlib.Omega.{arith}
-use Rattle.loops.specs.laws.Turned.{Turned, turn_none, turn_more, turn_all}
+use Rattle.loops.specs.laws.Turned.{turn_none, turn_more, turn_all}
 use Rattle.rules.specs.Predict.{psi_sum_turn, psi_sum}
 use Rattle.bdf.proofs.predict.psi_sum.Goals as goal
 

@@ -1,7 +1,6 @@
 use Rattle.std.specs.Prelude.{◌+◌, ◌-◌}
-use native.Mathlib.Omega.{arith}
-use Rattle.loops.specs.laws.Turned.{Turned, turn_none, turn_more, turn_all}
-use Rattle.rules.specs.Predict.{psi_sum_turn, psi_sum}
+use Rattle.loops.specs.laws.Turned.{Turned}
+use Rattle.rules.specs.Predict.{psi_sum_turn}
 use Rattle.bdf.proofs.predict.psi_sum.Given as goal
 
 abbrev pub invariant-loop-j : goal.invariant-loop-j

@@ -1,5 +1,4 @@
 -- `predict::scale_at`: three reads and `scale_of`. Assumes nothing.
-use borrow.Author.Rules.{rules}
 use Rattle.bdf.proofs.predict.scale_at.Goals as goal
 
 pub returns : goal.returns

@@ -1,5 +1,4 @@
 -- `reply::ask_derivative`: the state is told, and the derivative asked. Assumes nothing.
-use borrow.Author.Rules.{rules}
 use Rattle.bdf.proofs.reply.ask_derivative.Goals as goal
 
 pub returns : goal.returns

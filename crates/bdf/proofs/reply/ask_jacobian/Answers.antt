@@ -1,5 +1,4 @@
 -- `reply::ask_jacobian`: the state is told, and the Jacobian asked. Assumes nothing.
-use borrow.Author.Rules.{rules}
 use Rattle.bdf.proofs.reply.ask_jacobian.Goals as goal
 
 pub returns : goal.returns

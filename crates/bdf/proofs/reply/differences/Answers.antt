@@ -1,5 +1,4 @@
 -- `reply::differences`: its callees one after the other. Assumes nothing.
-use borrow.Author.Rules.{rules}
 use Rattle.rules.specs.Reply.{differences}
 use Rattle.bdf.proofs.reply.differences.Goals as goal
 

@@ -1,9 +1,8 @@
 -- `reply::failed_turn`: its callees one after the other. The attempt under way was not rejected before, so it may be now. Assumes nothing.
-use borrow.Author.Rules.{rules}
 use mathlib.Core.Path.{◌∙◌}
 use Rattle.std.specs.Prelude.{[]}
 use Rattle.rules.specs.Reply.{failed_turn}
-use Rattle.rules.specs.laws.ReplyLaws.{stored_ready, halved_ready}
+use Rattle.rules.proofs.laws.ReplyLaws.{stored_ready, halved_ready}
 use Rattle.bdf.proofs.CoreLaws.{again_prepared, again_rest}
 use Rattle.bdf.proofs.reply.failed_turn.Goals as goal
 

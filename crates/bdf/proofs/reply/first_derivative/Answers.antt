@@ -1,5 +1,4 @@
 -- `reply::first_derivative`: its callees one after the other. Assumes nothing.
-use borrow.Author.Rules.{rules}
 use Rattle.rules.specs.Reply.{first_derivative}
 use Rattle.bdf.proofs.reply.first_derivative.Goals as goal
 

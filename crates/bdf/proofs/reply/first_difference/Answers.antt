@@ -1,9 +1,7 @@
 -- `reply::first_difference`: one component a turn. Assumes nothing.
-use borrow.Author.Rules.{rules}
-use Rattle.std.specs.Prelude.{◌≡◌, ◌-◌, length}
 use mathlib.Core.Path.{refl}
 use native.Mathlib.Omega.{arith}
-use Rattle.loops.specs.laws.Turned.{Turned, turn_none, turn_more, turn_all}
+use Rattle.loops.specs.laws.Turned.{turn_none, turn_more, turn_all}
 use Rattle.rules.specs.Reply.{first_turn, first_difference}
 use Rattle.bdf.proofs.reply.first_difference.Goals as goal
 

@@ -1,9 +1,6 @@
-use borrow.Author.Rules.{rules}
 use Rattle.std.specs.Prelude.{◌≡◌, ◌-◌, length}
-use mathlib.Core.Path.{refl}
-use native.Mathlib.Omega.{arith}
-use Rattle.loops.specs.laws.Turned.{Turned, turn_none, turn_more, turn_all}
-use Rattle.rules.specs.Reply.{first_turn, first_difference}
+use Rattle.loops.specs.laws.Turned.{Turned}
+use Rattle.rules.specs.Reply.{first_turn}
 use Rattle.bdf.proofs.reply.first_difference.Given as goal
 
 abbrev pub invariant-loop-i : goal.invariant-loop-i

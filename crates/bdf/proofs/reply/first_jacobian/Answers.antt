@@ -1,8 +1,7 @@
 -- `reply::first_jacobian`: its callees one after the other. Assumes nothing.
-use borrow.Author.Rules.{rules}
 use Rattle.std.specs.Prelude.{[]}
 use Rattle.rules.specs.Reply.{first_jacobian}
-use Rattle.rules.specs.laws.ReplyLaws.{stored_ready}
+use Rattle.rules.proofs.laws.ReplyLaws.{stored_ready}
 use Rattle.bdf.proofs.reply.first_jacobian.Goals as goal
 
 pub first_step-requires : goal.first_step-requires

@@ -1,5 +1,4 @@
 -- `reply::first_step`: by whether the first step is given. Assumes nothing.
-use borrow.Author.Rules.{rules}
 use Rattle.std.specs.Prelude.{◌≡◌, List}
 use lib.Ieee.{Float}
 use Rattle.number.specs.Helpers.{abs_of}

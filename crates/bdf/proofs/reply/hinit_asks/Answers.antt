@@ -1,5 +1,4 @@
 -- `reply::hinit_asks`: its callees one after the other. Assumes nothing.
-use borrow.Author.Rules.{rules}
 use Rattle.rules.specs.Reply.{hinit_asks}
 use Rattle.bdf.proofs.reply.hinit_asks.Goals as goal
 

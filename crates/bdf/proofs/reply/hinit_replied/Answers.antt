@@ -1,5 +1,4 @@
 -- `reply::hinit_replied`: its callees one after the other. Assumes nothing.
-use borrow.Author.Rules.{rules}
 use Rattle.rules.specs.Reply.{hinit_replied}
 use Rattle.bdf.proofs.reply.hinit_replied.Goals as goal
 

@@ -1,5 +1,4 @@
 -- `reply::jacobian`: the values are stored, and counted. Assumes nothing.
-use borrow.Author.Rules.{rules}
 use Rattle.rules.specs.Reply.{jacobian_stored}
 use Rattle.bdf.proofs.reply.jacobian.Goals as goal
 

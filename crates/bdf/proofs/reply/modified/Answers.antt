@@ -1,5 +1,4 @@
 -- `reply::modified`: the new state is stored, and the derivative there asked. Assumes nothing.
-use borrow.Author.Rules.{rules}
 use Rattle.rules.specs.Reply.{modified}
 use Rattle.bdf.proofs.reply.modified.Goals as goal
 

@@ -1,8 +1,7 @@
 -- `reply::order_jacobian`: its callees one after the other. Assumes nothing.
-use borrow.Author.Rules.{rules}
 use Rattle.std.specs.Prelude.{[]}
 use Rattle.rules.specs.Reply.{order_jacobian}
-use Rattle.rules.specs.laws.ReplyLaws.{stored_ready}
+use Rattle.rules.proofs.laws.ReplyLaws.{stored_ready}
 use Rattle.bdf.proofs.CoreLaws.{again_prepared, again_rest}
 use Rattle.bdf.proofs.reply.order_jacobian.Goals as goal
 

@@ -1,8 +1,7 @@
 -- `reply::ordered`: its callees one after the other. The order chosen is one of 1 to 5. Assumes nothing.
-use borrow.Author.Rules.{rules}
 use mathlib.Core.Path.{◌∙◌}
-use Rattle.rules.specs.laws.ReadyLaws.{room_kept}
-use Rattle.rules.specs.laws.OrderLaws.{choice_within}
+use Rattle.rules.proofs.laws.ReadyLaws.{room_kept}
+use Rattle.rules.proofs.laws.OrderLaws.{choice_within}
 use Rattle.rules.specs.Reply.{ordered}
 use Rattle.bdf.proofs.reply.ordered.Goals as goal
 

@@ -1,5 +1,4 @@
 -- `reply::outdated`: one field changes. Assumes nothing.
-use borrow.Author.Rules.{rules}
 use mathlib.Core.Path.{refl}
 use Rattle.bdf.proofs.reply.outdated.Goals as goal
 

@@ -1,5 +1,4 @@
 -- `reply::plain`: its fields. Assumes nothing.
-use borrow.Author.Rules.{rules}
 use mathlib.Core.Path.{refl}
 use Rattle.bdf.proofs.reply.plain.Goals as goal
 

@@ -1,8 +1,7 @@
 -- `reply::replied`: by the place. The reply suits it, so it brings the values that the place asked. Assumes nothing.
-use borrow.Author.Rules.{rules}
 use mathlib.Core.Path.{refl, ◌∙◌}
 use Rattle.std.specs.Prelude.{[]}
-use Rattle.rules.specs.laws.ReplyLaws.{values_brought}
+use Rattle.rules.proofs.laws.ReplyLaws.{values_brought}
 use Rattle.bdf.specs.Core.{whole}
 use Rattle.bdf.proofs.CoreLaws.{says_prepared, says_rest, spoken_prepared, spoken_rest, plain_resumable, plain_resumed, newton_prepared, newton_rest, restart_wants, restart_replied}
 use Rattle.bdf.proofs.reply.replied.Goals as goal

@@ -1,8 +1,7 @@
 -- `reply::restart_jacobian`: its callees one after the other. Assumes nothing.
-use borrow.Author.Rules.{rules}
 use Rattle.std.specs.Prelude.{[]}
 use Rattle.rules.specs.Reply.{restart_jacobian}
-use Rattle.rules.specs.laws.ReplyLaws.{stored_ready, outdated_ready}
+use Rattle.rules.proofs.laws.ReplyLaws.{stored_ready, outdated_ready}
 use Rattle.bdf.proofs.CoreLaws.{again_prepared, again_rest}
 use Rattle.bdf.proofs.reply.restart_jacobian.Goals as goal
 

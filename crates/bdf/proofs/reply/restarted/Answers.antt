@@ -1,7 +1,6 @@
 -- `reply::restarted`: its callees one after the other. Assumes nothing.
-use borrow.Author.Rules.{rules}
 use mathlib.Core.Path.{◌∙◌}
-use Rattle.rules.specs.laws.ReadyLaws.{room_kept}
+use Rattle.rules.proofs.laws.ReadyLaws.{room_kept}
 use Rattle.rules.specs.Reply.{restarted}
 use Rattle.bdf.proofs.reply.restarted.Goals as goal
 

@@ -1,5 +1,4 @@
 -- `reply::start`: its callees one after the other. Assumes nothing.
-use borrow.Author.Rules.{rules}
 use Rattle.rules.specs.Reply.{started}
 use Rattle.bdf.proofs.reply.start.Goals as goal
 

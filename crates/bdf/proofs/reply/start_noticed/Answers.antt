@@ -1,7 +1,6 @@
 -- `reply::start_noticed`: by the reply; a modification brings a state. Assumes nothing.
-use borrow.Author.Rules.{rules}
 use Rattle.std.specs.Prelude.{[]}
-use Rattle.rules.specs.laws.ReplyLaws.{state_brought}
+use Rattle.rules.proofs.laws.ReplyLaws.{state_brought}
 use Rattle.bdf.proofs.CoreLaws.{says_prepared, says_rest, again_prepared, again_rest, spoken_prepared, spoken_rest}
 use Rattle.bdf.proofs.reply.start_noticed.Goals as goal
 

@@ -1,8 +1,7 @@
 -- `reply::step_jacobian`: its callees one after the other. Assumes nothing.
-use borrow.Author.Rules.{rules}
 use Rattle.std.specs.Prelude.{[]}
 use Rattle.rules.specs.Reply.{step_jacobian}
-use Rattle.rules.specs.laws.ReplyLaws.{stored_ready, outdated_ready}
+use Rattle.rules.proofs.laws.ReplyLaws.{stored_ready, outdated_ready}
 use Rattle.bdf.proofs.CoreLaws.{steps_resumable, steps_resumed}
 use Rattle.bdf.proofs.reply.step_jacobian.Goals as goal
 

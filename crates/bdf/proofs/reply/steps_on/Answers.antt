@@ -1,5 +1,4 @@
 -- `reply::steps_on`: its fields; an attempt's state is the one that it is tried from. Assumes nothing.
-use borrow.Author.Rules.{rules}
 use mathlib.Core.Path.{refl}
 use Rattle.std.specs.Prelude.{[]}
 use Rattle.bdf.proofs.CoreLaws.{again_at}

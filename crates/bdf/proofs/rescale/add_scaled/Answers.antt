@@ -1,9 +1,8 @@
 -- `rescale::add_scaled`: one place of the row a turn. Assumes nothing.
-use Rattle.std.specs.Prelude.{◌≡◌, ◌-◌, length}
 use mathlib.Core.Path.{refl, sym, ◌∙◌}
 use native.Mathlib.Omega.{arith}
 use lib.ListN.{length-set}
-use Rattle.loops.specs.laws.Turned.{Turned, turn_none, turn_more, turn_all}
+use Rattle.loops.specs.laws.Turned.{turn_none, turn_more, turn_all}
 use Rattle.loops.specs.laws.ChoiceLaws.{when_true, when_false}
 use Rattle.rules.specs.Rescale.{add_scaled, scaled_turn}
 use Rattle.bdf.proofs.rescale.add_scaled.Goals as goal

@@ -1,10 +1,6 @@
 use Rattle.std.specs.Prelude.{◌≡◌, ◌-◌, length}
-use mathlib.Core.Path.{refl, sym, ◌∙◌}
-use native.Mathlib.Omega.{arith}
-use lib.ListN.{length-set}
-use Rattle.loops.specs.laws.Turned.{Turned, turn_none, turn_more, turn_all}
-use Rattle.loops.specs.laws.ChoiceLaws.{when_true, when_false}
-use Rattle.rules.specs.Rescale.{add_scaled, scaled_turn}
+use Rattle.loops.specs.laws.Turned.{Turned}
+use Rattle.rules.specs.Rescale.{scaled_turn}
 use Rattle.bdf.proofs.rescale.add_scaled.Given as goal
 
 abbrev pub invariant-loop-j : goal.invariant-loop-j

@@ -2,14 +2,13 @@
 use Rattle.std.specs.Prelude.{◌+◌, ◌*◌, ◌≤◌}
 use native.Mathlib.Omega.{arith}
 use native.Mathlib.Nat.{min-eq_left}
-use borrow.Author.Rules.{rules}
-use Rattle.loops.specs.Choice.{if◌then◌else◌}
+use Rattle.loops.specs.Choice.{when◌then◌else◌}
 use Rattle.loops.specs.laws.RowLaws.{row_within}
 use Rattle.rules.specs.Rescale.{change_d, rescaled}
 use Rattle.bdf.proofs.rescale.change_d.Goals as goal
 
 pub returns-then-factor : goal.returns-then-factor
-unfolding change_d if◌then◌else◌
+unfolding change_d when◌then◌else◌
 returns-then-factor c = rw c.if-factor.true
 
 -- LOST mul-load : tie.Need-overflow-mul-load
@@ -17,7 +16,7 @@ returns-then-factor c = rw c.if-factor.true
 -- LOST     let args = c.before.before.before.before.before.before.before.before.args in
 -- LOST     let below : args.order * args.n + args.n ≤ 6 * args.n = row_within args.n (omega arith) in
 -- LOST     omega arith
--- LOST 
+-- LOST
 
 pub load-requires : goal.load-requires
 load-requires c =
@@ -26,6 +25,6 @@ load-requires c =
     (omega arith, omega arith)
 
 pub returns : goal.returns
-unfolding change_d rescaled if◌then◌else◌
+unfolding change_d rescaled when◌then◌else◌
 returns c =
     rw (c.if-factor.false, min-eq_left c.requires.1, c.load.ensures, c.new_rows-scratch.ensures, c.ru_by_order-ru.ensures)

@@ -1,5 +1,4 @@
 -- `rescale::compute_r` is r over m. Assumes nothing.
-use borrow.Author.Rules.{rules}
 use Rattle.rules.specs.Rescale.{compute_r}
 use Rattle.bdf.proofs.rescale.compute_r.Goals as goal
 

@@ -1,11 +1,8 @@
 -- `rescale::first_row`: row 0 is ones, one place a turn. Assumes nothing.
-use Rattle.std.specs.Prelude.{◌≡◌, ◌-◌, List, length, set}
 use mathlib.Core.Path.{refl}
 use native.Mathlib.Omega.{arith}
 use lib.ListN.{length-set}
-use lib.Ieee.{Float}
-use Rattle.loops.specs.laws.Turned.{Turned, turn_none, turn_more, turn_all}
-use Rattle.loops.specs.Arithmetic.{one}
+use Rattle.loops.specs.laws.Turned.{turn_none, turn_more, turn_all}
 use Rattle.rules.specs.Rescale.{first_row}
 use Rattle.bdf.proofs.rescale.first_row.Goals as goal
 

@@ -1,11 +1,7 @@
 use Rattle.std.specs.Prelude.{◌≡◌, ◌-◌, List, length, set}
-use mathlib.Core.Path.{refl}
-use native.Mathlib.Omega.{arith}
-use lib.ListN.{length-set}
 use lib.Ieee.{Float}
-use Rattle.loops.specs.laws.Turned.{Turned, turn_none, turn_more, turn_all}
+use Rattle.loops.specs.laws.Turned.{Turned}
 use Rattle.loops.specs.Arithmetic.{one}
-use Rattle.rules.specs.Rescale.{first_row}
 use Rattle.bdf.proofs.rescale.first_row.Given as goal
 
 abbrev pub invariant-loop-j : goal.invariant-loop-j

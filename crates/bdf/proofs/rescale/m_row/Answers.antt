@@ -1,8 +1,8 @@
 -- `rescale::m_row`: one entry of row i a turn. Assumes nothing.
 use mathlib.Core.Path.{refl}
-use Rattle.std.specs.Prelude.{◌-◌, ◌^◌}
+use Rattle.std.specs.Prelude.{◌^◌}
 use native.Mathlib.Omega.{arith}
-use Rattle.loops.specs.laws.Turned.{Turned, turn_none, turn_more, turn_all}
+use Rattle.loops.specs.laws.Turned.{turn_none, turn_more, turn_all}
 use lib.Dec.{le→leb}
 use lib.Ieee.{in_float}
 use Rattle.rules.specs.Rescale.{m_row, m_turn}

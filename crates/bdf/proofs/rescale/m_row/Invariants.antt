@@ -1,10 +1,6 @@
-use mathlib.Core.Path.{refl}
-use Rattle.std.specs.Prelude.{◌-◌, ◌^◌}
-use native.Mathlib.Omega.{arith}
-use Rattle.loops.specs.laws.Turned.{Turned, turn_none, turn_more, turn_all}
-use lib.Dec.{le→leb}
-use lib.Ieee.{in_float}
-use Rattle.rules.specs.Rescale.{m_row, m_turn}
+use Rattle.std.specs.Prelude.{◌-◌}
+use Rattle.loops.specs.laws.Turned.{Turned}
+use Rattle.rules.specs.Rescale.{m_turn}
 use Rattle.bdf.proofs.rescale.m_row.Given as goal
 
 abbrev pub invariant-loop-j : goal.invariant-loop-j

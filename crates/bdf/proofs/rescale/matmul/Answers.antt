@@ -1,9 +1,8 @@
 -- `rescale::matmul`: one row a turn. Assumes nothing.
-use Rattle.std.specs.Prelude.{◌≡◌, ◌-◌, length}
 use mathlib.Core.Path.{refl}
 use native.Mathlib.Omega.{arith}
-use Rattle.loops.specs.laws.Turned.{Turned, turn_none, turn_more, turn_all}
-use Rattle.rules.specs.Rescale.{matmul, product_row}
+use Rattle.loops.specs.laws.Turned.{turn_none, turn_more, turn_all}
+use Rattle.rules.specs.Rescale.{matmul}
 use Rattle.bdf.proofs.rescale.matmul.Goals as goal
 
 pub loop-i-init : goal.loop-i-init

@@ -1,8 +1,8 @@
 -- `rescale::new_row`: one row of D a turn. Assumes nothing.
-use Rattle.std.specs.Prelude.{◌≡◌, ◌+◌, ◌-◌, ◌*◌, ◌≤◌, length}
+use Rattle.std.specs.Prelude.{◌+◌, ◌*◌, ◌≤◌}
 use mathlib.Core.Path.{refl}
 use native.Mathlib.Omega.{arith}
-use Rattle.loops.specs.laws.Turned.{Turned, turn_none, turn_more, turn_all}
+use Rattle.loops.specs.laws.Turned.{turn_none, turn_more, turn_all}
 use Rattle.loops.specs.laws.RowLaws.{row_within}
 use Rattle.rules.specs.Rescale.{new_row, new_row_turn}
 use Rattle.bdf.proofs.rescale.new_row.Goals as goal

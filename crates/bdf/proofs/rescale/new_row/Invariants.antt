@@ -1,9 +1,6 @@
-use Rattle.std.specs.Prelude.{◌≡◌, ◌+◌, ◌-◌, ◌*◌, ◌≤◌, length}
-use mathlib.Core.Path.{refl}
-use native.Mathlib.Omega.{arith}
-use Rattle.loops.specs.laws.Turned.{Turned, turn_none, turn_more, turn_all}
-use Rattle.loops.specs.laws.RowLaws.{row_within}
-use Rattle.rules.specs.Rescale.{new_row, new_row_turn}
+use Rattle.std.specs.Prelude.{◌≡◌, ◌-◌, length}
+use Rattle.loops.specs.laws.Turned.{Turned}
+use Rattle.rules.specs.Rescale.{new_row_turn}
 use Rattle.bdf.proofs.rescale.new_row.Given as goal
 
 abbrev pub invariant-loop-k : goal.invariant-loop-k

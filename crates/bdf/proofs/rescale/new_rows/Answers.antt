@@ -1,11 +1,10 @@
 -- `rescale::new_rows`: one row a turn. Assumes nothing.
-use Rattle.std.specs.Prelude.{◌≡◌, ◌+◌, ◌-◌, ◌*◌, ◌≤◌, length}
+use Rattle.std.specs.Prelude.{◌+◌, ◌*◌, ◌≤◌}
 use mathlib.Core.Path.{refl}
 use native.Mathlib.Omega.{arith}
-use Rattle.loops.specs.laws.Turned.{Turned, turn_none, turn_more, turn_all}
-use Rattle.matrix.specs.Size.{max_n}
+use Rattle.loops.specs.laws.Turned.{turn_none, turn_more, turn_all}
 use Rattle.loops.specs.laws.RowLaws.{row_within}
-use Rattle.rules.specs.Rescale.{new_rows, new_row}
+use Rattle.rules.specs.Rescale.{new_rows}
 use Rattle.bdf.proofs.rescale.new_rows.Goals as goal
 
 pub loop-i-init : goal.loop-i-init

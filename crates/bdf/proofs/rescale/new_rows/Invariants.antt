@@ -1,10 +1,7 @@
-use Rattle.std.specs.Prelude.{◌≡◌, ◌+◌, ◌-◌, ◌*◌, ◌≤◌, length}
-use mathlib.Core.Path.{refl}
-use native.Mathlib.Omega.{arith}
-use Rattle.loops.specs.laws.Turned.{Turned, turn_none, turn_more, turn_all}
+use Rattle.std.specs.Prelude.{◌≡◌, ◌-◌, ◌*◌, length}
+use Rattle.loops.specs.laws.Turned.{Turned}
 use Rattle.matrix.specs.Size.{max_n}
-use Rattle.loops.specs.laws.RowLaws.{row_within}
-use Rattle.rules.specs.Rescale.{new_rows, new_row}
+use Rattle.rules.specs.Rescale.{new_row}
 use Rattle.bdf.proofs.rescale.new_rows.Given as goal
 
 abbrev pub invariant-loop-i : goal.invariant-loop-i

@@ -1,8 +1,7 @@
 -- `rescale::product_row`: one row of b a turn. Assumes nothing.
-use Rattle.std.specs.Prelude.{◌≡◌, ◌-◌, length}
 use mathlib.Core.Path.{refl}
 use native.Mathlib.Omega.{arith}
-use Rattle.loops.specs.laws.Turned.{Turned, turn_none, turn_more, turn_all}
+use Rattle.loops.specs.laws.Turned.{turn_none, turn_more, turn_all}
 use Rattle.rules.specs.Rescale.{product_row, product_turn}
 use Rattle.bdf.proofs.rescale.product_row.Goals as goal
 

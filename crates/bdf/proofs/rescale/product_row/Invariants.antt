@@ -1,8 +1,6 @@
 use Rattle.std.specs.Prelude.{◌≡◌, ◌-◌, length}
-use mathlib.Core.Path.{refl}
-use native.Mathlib.Omega.{arith}
-use Rattle.loops.specs.laws.Turned.{Turned, turn_none, turn_more, turn_all}
-use Rattle.rules.specs.Rescale.{product_row, product_turn}
+use Rattle.loops.specs.laws.Turned.{Turned}
+use Rattle.rules.specs.Rescale.{product_turn}
 use Rattle.bdf.proofs.rescale.product_row.Given as goal
 
 abbrev pub invariant-loop-k : goal.invariant-loop-k

@@ -1,8 +1,7 @@
 -- `rescale::r_row`: one entry of row i a turn. Assumes nothing.
 use mathlib.Core.Path.{refl}
-use Rattle.std.specs.Prelude.{◌-◌}
 use native.Mathlib.Omega.{arith}
-use Rattle.loops.specs.laws.Turned.{Turned, turn_none, turn_more, turn_all}
+use Rattle.loops.specs.laws.Turned.{turn_none, turn_more, turn_all}
 use Rattle.rules.specs.Rescale.{r_row, r_turn}
 use Rattle.bdf.proofs.rescale.r_row.Goals as goal
 

@@ -1,8 +1,6 @@
-use mathlib.Core.Path.{refl}
 use Rattle.std.specs.Prelude.{◌-◌}
-use native.Mathlib.Omega.{arith}
-use Rattle.loops.specs.laws.Turned.{Turned, turn_none, turn_more, turn_all}
-use Rattle.rules.specs.Rescale.{r_row, r_turn}
+use Rattle.loops.specs.laws.Turned.{Turned}
+use Rattle.rules.specs.Rescale.{r_turn}
 use Rattle.bdf.proofs.rescale.r_row.Given as goal
 
 abbrev pub invariant-loop-j : goal.invariant-loop-j

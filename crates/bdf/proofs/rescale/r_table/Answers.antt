@@ -1,8 +1,7 @@
 -- `rescale::r_table`: one row a turn, below the row of ones. Assumes nothing.
-use Rattle.std.specs.Prelude.{◌-◌}
 use native.Mathlib.Omega.{arith}
-use Rattle.loops.specs.laws.Turned.{Turned, turn_none, turn_more, turn_all}
-use Rattle.rules.specs.Rescale.{r_table, r_row}
+use Rattle.loops.specs.laws.Turned.{turn_none, turn_more, turn_all}
+use Rattle.rules.specs.Rescale.{r_table}
 use Rattle.bdf.proofs.rescale.r_table.Goals as goal
 
 pub loop-i-init : goal.loop-i-init

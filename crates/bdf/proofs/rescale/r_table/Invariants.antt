@@ -1,7 +1,6 @@
 use Rattle.std.specs.Prelude.{◌-◌}
-use native.Mathlib.Omega.{arith}
-use Rattle.loops.specs.laws.Turned.{Turned, turn_none, turn_more, turn_all}
-use Rattle.rules.specs.Rescale.{r_table, r_row}
+use Rattle.loops.specs.laws.Turned.{Turned}
+use Rattle.rules.specs.Rescale.{r_row}
 use Rattle.bdf.proofs.rescale.r_table.Given as goal
 
 abbrev pub invariant-loop-i : goal.invariant-loop-i

@@ -1,7 +1,6 @@
 -- `rescale::ru_by_order`: the literal in an arm's call is the arm's key, so the order itself; in the last arm only 5 is left. Assumes nothing.
 use Rattle.std.specs.Prelude.{◌≡◌}
 use native.Mathlib.Omega.{arith}
-use borrow.Author.Rules.{rules}
 use Rattle.bdf.proofs.rescale.ru_by_order.Goals as goal
 
 pub returns-in-1 : goal.returns-in-1

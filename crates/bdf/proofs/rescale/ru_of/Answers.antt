@@ -1,7 +1,6 @@
 -- `rescale::ru_of`: the product with the unit coefficients is the one with `compute_r` at 1.0. Assumes nothing.
-use borrow.Author.Rules.{rules}
 use Rattle.rules.specs.Rescale.{compute_r}
-use Rattle.unit.specs.promises.UnitTable.{product_by_the_table}
+use Rattle.unit.proofs.promises.UnitTable.{product_by_the_table}
 use Rattle.bdf.proofs.rescale.ru_of.Goals as goal
 
 pub returns : goal.returns

@@ -1,5 +1,4 @@
 -- `run::first_stage`: what a reply leaves to do, or what follows a step. Assumes nothing.
-use borrow.Author.Rules.{rules}
 use mathlib.Core.Path.{sym, ◌∙◌}
 use Rattle.loops.specs.laws.ChoiceLaws.{when_true, when_false}
 use Rattle.bdf.proofs.run.first_stage.Goals as goal

@@ -1,12 +1,9 @@
 -- `run::run`: what is left to do after each attempt is what was left after the first stage, and a rejected one leaves what
 -- the next asks. The measure is how many attempts can still come. Assumes nothing.
-use borrow.Author.Rules.{rules}
-use Rattle.std.specs.Prelude.{◌≡◌, ◌≤◌, [], length}
+use Rattle.std.specs.Prelude.{[]}
 use mathlib.Core.Path.{refl, sym, ◌∙◌}
 use native.Mathlib.Omega.{arith}
-use Rattle.matrix.specs.Size.{max_n}
-use Rattle.rules.specs.laws.MainLoopLaws.{attempts_in, rest_after, fewer_after, ready_after}
-use Rattle.bdf.specs.Core.{tried, left_over, Prepared}
+use Rattle.rules.proofs.laws.MainLoopLaws.{rest_after, fewer_after, ready_after}
 use Rattle.bdf.proofs.CoreLaws.{ready_of, tried_again, left_again, left_said}
 use Rattle.bdf.proofs.run.run.Goals as goal
 

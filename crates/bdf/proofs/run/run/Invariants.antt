@@ -1,11 +1,7 @@
-use borrow.Author.Rules.{rules}
-use Rattle.std.specs.Prelude.{◌≡◌, ◌≤◌, [], length}
-use mathlib.Core.Path.{refl, sym, ◌∙◌}
-use native.Mathlib.Omega.{arith}
+use Rattle.std.specs.Prelude.{◌≡◌, ◌≤◌, length}
 use Rattle.matrix.specs.Size.{max_n}
-use Rattle.rules.specs.laws.MainLoopLaws.{attempts_in, rest_after, fewer_after, ready_after}
+use Rattle.rules.proofs.laws.MainLoopLaws.{attempts_in}
 use Rattle.bdf.specs.Core.{tried, left_over, Prepared}
-use Rattle.bdf.proofs.CoreLaws.{ready_of, tried_again, left_again, left_said}
 use Rattle.bdf.proofs.run.run.Given as goal
 
 abbrev pub invariant-loop-o : goal.invariant-loop-o

@@ -1,5 +1,4 @@
 -- `starting::final_guess`: its definition's steps in order. Assumes nothing.
-use borrow.Author.Rules.{rules}
 use Rattle.rules.specs.Starting.{final_guess}
 use Rattle.bdf.proofs.starting.final_guess.Goals as goal
 

@@ -1,5 +1,4 @@
 -- `starting::guess`: the first guess of the two sums. Assumes nothing.
-use borrow.Author.Rules.{rules}
 use Rattle.rules.specs.Starting.{guess}
 use Rattle.bdf.proofs.starting.guess.Goals as goal
 

@@ -1,5 +1,4 @@
 -- `starting::hinit`: the final guess of its parts. Assumes nothing.
-use borrow.Author.Rules.{rules}
 use Rattle.rules.specs.Starting.{hinit}
 use Rattle.bdf.proofs.starting.hinit.Goals as goal
 

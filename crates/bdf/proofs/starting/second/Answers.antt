@@ -1,7 +1,6 @@
 -- `starting::second`: one component a turn. Assumes nothing.
-use Rattle.std.specs.Prelude.{◌-◌}
 use native.Mathlib.Omega.{arith}
-use Rattle.loops.specs.laws.Turned.{Turned, turn_none, turn_more, turn_all}
+use Rattle.loops.specs.laws.Turned.{turn_none, turn_more, turn_all}
 use Rattle.rules.specs.Starting.{second_turn, second}
 use Rattle.bdf.proofs.starting.second.Goals as goal
 

@@ -1,7 +1,6 @@
 use Rattle.std.specs.Prelude.{◌-◌}
-use native.Mathlib.Omega.{arith}
-use Rattle.loops.specs.laws.Turned.{Turned, turn_none, turn_more, turn_all}
-use Rattle.rules.specs.Starting.{second_turn, second}
+use Rattle.loops.specs.laws.Turned.{Turned}
+use Rattle.rules.specs.Starting.{second_turn}
 use Rattle.bdf.proofs.starting.second.Given as goal
 
 abbrev pub invariant-loop-i : goal.invariant-loop-i

@@ -1,5 +1,4 @@
 -- `starting::sk`: three reads and a magnitude. Assumes nothing.
-use borrow.Author.Rules.{rules}
 use Rattle.bdf.proofs.starting.sk.Goals as goal
 
 pub returns : goal.returns

@@ -1,7 +1,6 @@
 -- `starting::squares`: one component a turn. Assumes nothing.
-use Rattle.std.specs.Prelude.{◌-◌}
 use native.Mathlib.Omega.{arith}
-use Rattle.loops.specs.laws.Turned.{Turned, turn_none, turn_more, turn_all}
+use Rattle.loops.specs.laws.Turned.{turn_none, turn_more, turn_all}
 use Rattle.rules.specs.Starting.{squares_turn, squares}
 use Rattle.bdf.proofs.starting.squares.Goals as goal
 

@@ -1,7 +1,6 @@
 use Rattle.std.specs.Prelude.{◌-◌}
-use native.Mathlib.Omega.{arith}
-use Rattle.loops.specs.laws.Turned.{Turned, turn_none, turn_more, turn_all}
-use Rattle.rules.specs.Starting.{squares_turn, squares}
+use Rattle.loops.specs.laws.Turned.{Turned}
+use Rattle.rules.specs.Starting.{squares_turn}
 use Rattle.bdf.proofs.starting.squares.Given as goal
 
 abbrev pub invariant-loop-i : goal.invariant-loop-i

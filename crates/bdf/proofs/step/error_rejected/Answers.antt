@@ -1,5 +1,4 @@
 -- `step::error_rejected`: the differences are rescaled, and the pace and a counter change. The counter is at most the attempts. Assumes nothing.
-use borrow.Author.Rules.{rules}
 use native.Mathlib.Omega.{arith}
 use Rattle.rules.specs.Step.{error_rejected}
 use Rattle.bdf.proofs.step.error_rejected.Goals as goal

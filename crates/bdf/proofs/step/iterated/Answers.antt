@@ -1,20 +1,19 @@
 -- `step::iterated`: by the two tests on the norm of the correction. Assumes nothing.
-use borrow.Author.Rules.{rules}
-use Rattle.loops.specs.Choice.{if◌then◌else◌}
+use Rattle.loops.specs.Choice.{when◌then◌else◌}
 use Rattle.rules.specs.Step.{iterated}
 use Rattle.bdf.proofs.step.iterated.Goals as goal
 
 pub returns-then-converged : goal.returns-then-converged
-unfolding iterated if◌then◌else◌
+unfolding iterated when◌then◌else◌
 returns-then-converged c =
     λ pivot. rw (← c.converged.ensures, c.if-converged.true) (c.judge.ensures pivot)
 
 pub returns-then-gave_up : goal.returns-then-gave_up
-unfolding iterated if◌then◌else◌
+unfolding iterated when◌then◌else◌
 returns-then-gave_up c =
     λ pivot. rw (← c.converged.ensures, c.if-converged.false, ← c.gave_up.ensures, c.if-gave_up.true) (c.newton_failed.ensures pivot)
 
 pub returns : goal.returns
-unfolding iterated if◌then◌else◌
+unfolding iterated when◌then◌else◌
 returns c =
     λ pivot. rw (← c.converged.ensures, c.if-converged.false, ← c.gave_up.ensures, c.if-gave_up.false) (c.newton_again.ensures pivot)

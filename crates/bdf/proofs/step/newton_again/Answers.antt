@@ -1,5 +1,4 @@
 -- `step::newton_again`: the state is told, and the next derivative asked. Assumes nothing.
-use borrow.Author.Rules.{rules}
 use Rattle.rules.specs.Step.{newton_again}
 use Rattle.bdf.proofs.step.newton_again.Goals as goal
 

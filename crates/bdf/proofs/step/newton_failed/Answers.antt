@@ -1,5 +1,4 @@
 -- `step::newton_failed`: the prediction is told, and the Jacobian asked. Assumes nothing.
-use borrow.Author.Rules.{rules}
 use Rattle.rules.specs.Step.{newton_failed}
 use Rattle.bdf.proofs.step.newton_failed.Goals as goal
 

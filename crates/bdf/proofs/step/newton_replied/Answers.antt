@@ -1,8 +1,7 @@
 -- `step::newton_replied`: its callees one after the other; a counter that the judgement does not ask is one higher. Assumes nothing.
-use borrow.Author.Rules.{rules}
 use mathlib.Core.Path.{◌∙◌}
 use native.Mathlib.Omega.{arith}
-use Rattle.rules.specs.laws.ReadyLaws.{room_kept}
+use Rattle.rules.proofs.laws.ReadyLaws.{room_kept}
 use Rattle.rules.specs.Step.{newton_replied}
 use Rattle.bdf.proofs.step.newton_replied.Goals as goal
 

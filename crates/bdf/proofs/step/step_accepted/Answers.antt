@@ -1,5 +1,4 @@
 -- `step::step_accepted`: the accepted step, then what is told of it. Assumes nothing.
-use borrow.Author.Rules.{rules}
 use mathlib.Core.Path.{◌∙◌}
 use native.Mathlib.Omega.{arith}
 use Rattle.rules.specs.Step.{step_accepted}

@@ -1,10 +1,9 @@
 -- `tables::gamma`: its constants have the bits of the table that the loop of `solve` computes. Assumes nothing.
 use mathlib.Core.Path.{ap}
 use Rattle.std.specs.Prelude.{List}
-use borrow.Author.Rules.{rules}
 use lib.Ieee.{Float}
 use Rattle.loops.specs.Cell.{at}
-use Rattle.rules.specs.laws.TableBits.{gamma_bits}
+use Rattle.rules.proofs.laws.TableBits.{gamma_bits}
 use Rattle.bdf.proofs.tables.gamma.Goals as goal
 
 pub returns : goal.returns

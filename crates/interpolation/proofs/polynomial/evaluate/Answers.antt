@@ -1,12 +1,9 @@
 -- `polynomial::evaluate`: one component a turn. Assumes nothing.
-use mathlib.Core.Path.{◌≡◌, refl}
-use Prim.Native.Nat.{◌-◌}
+use mathlib.Core.Path.{refl}
 use native.Mathlib.Omega.{arith}
-use lib.ListN.{length, set, length-set}
-use Rattle.loops.specs.laws.Turned.{Turned, turn_none, turn_more, turn_all}
-use mathlib.Core.List.{List}
-use lib.Ieee.{Float}
-use Rattle.interpolation.specs.Interpolate.{evaluated, sum_at}
+use lib.ListN.{length-set}
+use Rattle.loops.specs.laws.Turned.{turn_none, turn_more, turn_all}
+use Rattle.interpolation.specs.Interpolate.{evaluated}
 use Rattle.interpolation.proofs.polynomial.evaluate.Goals as goal
 
 pub loop-i-init : goal.loop-i-init

@@ -1,11 +1,10 @@
-use mathlib.Core.Path.{◌≡◌, refl}
+use mathlib.Core.Path.{◌≡◌}
 use Prim.Native.Nat.{◌-◌}
-use native.Mathlib.Omega.{arith}
-use lib.ListN.{length, set, length-set}
-use Rattle.loops.specs.laws.Turned.{Turned, turn_none, turn_more, turn_all}
+use lib.ListN.{length, set}
+use Rattle.loops.specs.laws.Turned.{Turned}
 use mathlib.Core.List.{List}
 use lib.Ieee.{Float}
-use Rattle.interpolation.specs.Interpolate.{evaluated, sum_at}
+use Rattle.interpolation.specs.Interpolate.{sum_at}
 use Rattle.interpolation.proofs.polynomial.evaluate.Given as goal
 
 abbrev pub invariant-loop-i : goal.invariant-loop-i

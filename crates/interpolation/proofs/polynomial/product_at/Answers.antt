@@ -1,6 +1,5 @@
 -- `polynomial::product_at` goes by the same test as its definition. Assumes nothing.
 use mathlib.Core.Path.{sym}
-use native.Mathlib.Omega.{arith}
 use borrow.Author.Tests.{eq-eqb, ne_eqb}
 use Rattle.loops.specs.laws.ChoiceLaws.{when_true, when_false}
 use Rattle.interpolation.specs.Interpolate.{product_at}

@@ -1,7 +1,6 @@
 -- `polynomial::products`: one product a turn. Assumes nothing.
-use Prim.Native.Nat.{◌-◌}
 use native.Mathlib.Omega.{arith}
-use Rattle.loops.specs.laws.Turned.{Turned, turn_none, turn_more, turn_all}
+use Rattle.loops.specs.laws.Turned.{turn_none, turn_more, turn_all}
 use Rattle.interpolation.specs.Interpolate.{products, products_turn}
 use Rattle.interpolation.proofs.polynomial.products.Goals as goal
 

@@ -1,7 +1,6 @@
 use Prim.Native.Nat.{◌-◌}
-use native.Mathlib.Omega.{arith}
-use Rattle.loops.specs.laws.Turned.{Turned, turn_none, turn_more, turn_all}
-use Rattle.interpolation.specs.Interpolate.{products, products_turn}
+use Rattle.loops.specs.laws.Turned.{Turned}
+use Rattle.interpolation.specs.Interpolate.{products_turn}
 use Rattle.interpolation.proofs.polynomial.products.Given as goal
 
 abbrev pub invariant-loop-k : goal.invariant-loop-k

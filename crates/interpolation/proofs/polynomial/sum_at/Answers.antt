@@ -1,8 +1,7 @@
 -- `polynomial::sum_at`: one term a turn, from the first coefficient on. Assumes nothing.
 use mathlib.Core.Path.{refl}
-use Prim.Native.Nat.{◌-◌, ◌*◌}
 use native.Mathlib.Omega.{arith}
-use Rattle.loops.specs.laws.Turned.{Turned, turn_none, turn_more, turn_all}
+use Rattle.loops.specs.laws.Turned.{turn_none, turn_more, turn_all}
 use Rattle.interpolation.specs.Interpolate.{sum_at, sum_turn}
 use Rattle.interpolation.proofs.polynomial.sum_at.Goals as goal
 

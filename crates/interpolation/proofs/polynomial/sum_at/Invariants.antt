@@ -1,8 +1,6 @@
-use mathlib.Core.Path.{refl}
 use Prim.Native.Nat.{◌-◌, ◌*◌}
-use native.Mathlib.Omega.{arith}
-use Rattle.loops.specs.laws.Turned.{Turned, turn_none, turn_more, turn_all}
-use Rattle.interpolation.specs.Interpolate.{sum_at, sum_turn}
+use Rattle.loops.specs.laws.Turned.{Turned}
+use Rattle.interpolation.specs.Interpolate.{sum_turn}
 use Rattle.interpolation.proofs.polynomial.sum_at.Given as goal
 
 abbrev pub invariant-loop-k : goal.invariant-loop-k

@@ -1,5 +1,4 @@
 -- `polynomial::values_by_order`: the literal in an arm's call is the arm's key, so the order itself. Assumes nothing.
-use borrow.Author.Rules.{rules}
 use Rattle.interpolation.proofs.polynomial.values_by_order.Goals as goal
 
 pub returns-in-5 : goal.returns-in-5

@@ -1,5 +1,4 @@
 -- `polynomial::values_of_order`: the products, then the sums over them. Assumes nothing.
-use borrow.Author.Rules.{rules}
 use Rattle.interpolation.proofs.polynomial.values_of_order.Goals as goal
 
 pub returns : goal.returns

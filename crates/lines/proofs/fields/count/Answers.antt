@@ -1,5 +1,4 @@
 -- `fields::count` meets its contract: a space, then the field. Assumes nothing.
-use borrow.Author.Rules.{rules}
 use Rattle.lines.specs.Fields.{puts_fields}
 use Rattle.lines.proofs.fields.count.Goals as goal
 

@@ -1,5 +1,4 @@
 -- `fields::counted` meets its contract: three counts, one after the other. Assumes nothing.
-use borrow.Author.Rules.{rules}
 use Rattle.lines.proofs.Pieces.{both}
 use Rattle.lines.proofs.fields.counted.Goals as goal
 

@@ -1,5 +1,4 @@
 -- `fields::end` meets its contract: the letter, the fields in their order, the line's end. Assumes nothing.
-use borrow.Author.Rules.{rules}
 use Rattle.lines.proofs.Pieces.{both, whole_line}
 use Rattle.lines.proofs.fields.end.Goals as goal
 

@@ -1,5 +1,4 @@
 -- `fields::ended` meets its contract: the status by its number, then h. Assumes nothing.
-use borrow.Author.Rules.{rules}
 use Rattle.lines.specs.Fields.{puts_fields}
 use Rattle.lines.proofs.fields.ended.Goals as goal
 

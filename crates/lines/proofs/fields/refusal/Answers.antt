@@ -1,5 +1,4 @@
 -- `fields::refusal` meets its contract: the letter, the number, the line's end. Assumes nothing.
-use borrow.Author.Rules.{rules}
 use Rattle.lines.proofs.Pieces.{whole_line}
 use Rattle.lines.proofs.fields.refusal.Goals as goal
 

@@ -1,5 +1,4 @@
 -- `fields::state` meets its contract: the letter, x, each y, the line's end. Assumes nothing.
-use borrow.Author.Rules.{rules}
 use Rattle.lines.specs.Lines.{hexes}
 use Rattle.lines.proofs.Pieces.{both, whole_line}
 use Rattle.lines.proofs.fields.state.Goals as goal

@@ -1,6 +1,5 @@
 -- `lines::end_line` meets its contract: the line is as long as the code says. Assumes nothing.
 use mathlib.Core.Path.{sym, ◌∙◌}
-use borrow.Author.Rules.{rules}
 use Rattle.lines.specs.Lines.{end_fields, end_line}
 use Rattle.lines.specs.laws.FieldLaws.{length_end}
 use Rattle.lines.proofs.Rooms.{whole, not_begun}

@@ -1,7 +1,6 @@
 -- `lines::has_room` meets its contract: the code's two tests are the definition's one, taken apart so that no sum wraps.
 -- Assumes nothing.
 use native.Mathlib.Omega.{arith}
-use borrow.Author.Rules.{rules}
 use Rattle.lines.proofs.Rooms.{has_room, has_no_room}
 use Rattle.lines.proofs.lines.has_room.Goals as goal
 

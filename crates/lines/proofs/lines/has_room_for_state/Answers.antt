@@ -1,7 +1,6 @@
 -- `lines::has_room_for_state` meets its contract: what is left after 19 bytes, divided by 17, is a number of doubles that has
 -- room, so that no product wraps. Assumes nothing.
 use native.Mathlib.Omega.{arith}
-use borrow.Author.Rules.{rules}
 use Rattle.lines.proofs.Rooms.{has_room, has_no_room}
 use Rattle.lines.proofs.lines.has_room_for_state.Goals as goal
 

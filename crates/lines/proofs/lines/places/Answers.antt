@@ -1,5 +1,4 @@
 -- `lines::places`: no count has more than 20 digits. Assumes nothing.
-use borrow.Author.Rules.{rules}
 use Rattle.text.specs.laws.DigitLaws.{places_at_most_20}
 use Rattle.lines.proofs.lines.places.Goals as goal
 

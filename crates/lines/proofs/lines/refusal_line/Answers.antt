@@ -1,5 +1,4 @@
 -- `lines::refusal_line` meets its contract: the line is as long as the code says. Assumes nothing.
-use borrow.Author.Rules.{rules}
 use Rattle.lines.specs.laws.FieldLaws.{length_refusal}
 use Rattle.lines.proofs.Rooms.{whole, not_begun}
 use Rattle.lines.proofs.lines.refusal_line.Goals as goal

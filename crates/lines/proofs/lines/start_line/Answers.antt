@@ -1,5 +1,4 @@
 -- `lines::start_line` meets its contract: it is `state_line` with its own letter. Assumes nothing.
-use borrow.Author.Rules.{rules}
 use Rattle.lines.proofs.lines.start_line.Goals as goal
 
 pub returns : goal.returns

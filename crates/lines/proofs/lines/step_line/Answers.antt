@@ -1,5 +1,4 @@
 -- `lines::step_line` meets its contract: it is `state_line` with its own letter. Assumes nothing.
-use borrow.Author.Rules.{rules}
 use Rattle.lines.proofs.lines.step_line.Goals as goal
 
 pub returns : goal.returns

@@ -1,5 +1,4 @@
 -- `numbers::number_of` meets its contract, case by case. Assumes nothing.
-use borrow.Author.Rules.{rules}
 use Rattle.lines.specs.Types.{number_of}
 use Rattle.lines.proofs.numbers.number_of.Goals as goal
 

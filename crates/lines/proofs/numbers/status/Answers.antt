@@ -1,5 +1,4 @@
 -- `numbers::status` meets its contract, case by case. Assumes nothing.
-use borrow.Author.Rules.{rules}
 use Rattle.lines.proofs.numbers.status.Goals as goal
 
 pub returns-in-Success : goal.returns-in-Success

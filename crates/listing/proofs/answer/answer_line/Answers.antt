@@ -6,7 +6,7 @@ use Prim.Native.Nat.{ℕ}
 use lib.Dec.{ltb}
 use lib.ListN.{length, take}
 use lib.Ieee.{Float}
-use Rattle.loops.specs.Choice.{if◌then◌else◌}
+use Rattle.loops.specs.Choice.{when◌then◌else◌}
 use Rattle.text.specs.declared.page.Place.TheVariants.{At}
 use Rattle.text.specs.Page.{Page as Put, puts}
 use Rattle.text.specs.laws.Fronts.{front}
@@ -18,7 +18,7 @@ use Rattle.listing.proofs.answer.answer_line.Goals as goal
 
 -- the lesser of the components and the places
 abbrev Cut : ℕ → List Float → ℕ → Type 0
-Cut n q k = k ≡ (if ltb n (length q) then n else length q)
+Cut n q k = k ≡ (when ltb n (length q) then n else length q)
 
 -- that many places are there
 cut_front : (n : ℕ) (q : List Float) {k : ℕ} → Cut n q k → k ≡ length (take k q)

@@ -1,10 +1,8 @@
 -- `linear::back` meets its contract: each turn of the loop is a turn of the definition. b[k] is read after the division.
 -- Assumes nothing.
-use mathlib.Core.Path.{◌≡◌, refl}
-use Prim.Native.Nat.{◌-◌}
+use mathlib.Core.Path.{refl}
 use native.Mathlib.Omega.{arith}
-use lib.ListN.{length}
-use Rattle.loops.specs.laws.Turned.{Turned, turn_none, turn_more, turn_all}
+use Rattle.loops.specs.laws.Turned.{turn_none, turn_more, turn_all}
 use Rattle.matrix.specs.Linear.{back_turn}
 use Rattle.matrix.proofs.linear.back.Goals as goal
 

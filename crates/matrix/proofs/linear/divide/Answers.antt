@@ -1,5 +1,4 @@
 -- `linear::divide` meets its contract: one read of each, one write. Assumes nothing.
-use borrow.Author.Rules.{rules}
 use Rattle.matrix.specs.Linear.{divided_of}
 use Rattle.matrix.proofs.linear.divide.Goals as goal
 

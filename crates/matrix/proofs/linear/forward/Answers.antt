@@ -1,10 +1,8 @@
 -- `linear::forward` meets its contract: each turn of the loop is a turn of the definition. b[k] is read after the exchange.
 -- Assumes nothing.
-use mathlib.Core.Path.{◌≡◌, refl}
-use Prim.Native.Nat.{◌-◌}
+use mathlib.Core.Path.{refl}
 use native.Mathlib.Omega.{arith}
-use lib.ListN.{length}
-use Rattle.loops.specs.laws.Turned.{Turned, turn_none, turn_more, turn_all}
+use Rattle.loops.specs.laws.Turned.{turn_none, turn_more, turn_all}
 use Rattle.matrix.specs.Linear.{forward_turn}
 use Rattle.matrix.proofs.linear.forward.Goals as goal
 

@@ -1,13 +1,11 @@
 -- `linear::lower` meets its contract: each turn of the loop is a turn of the definition, since b[k], which the loop does not
 -- write, keeps the value that t has. Assumes nothing.
-use mathlib.Core.Path.{◌≡◌, sym}
-use Prim.Native.Nat.{◌+◌, ◌-◌}
+use mathlib.Core.Path.{sym}
 use native.Mathlib.Omega.{arith}
-use lib.ListN.{length, length-set}
+use lib.ListN.{length-set}
 use lib.Seq.{get_or-set_other}
 use lib.Ieee.{nan}
-use Rattle.loops.specs.Cell.{at}
-use Rattle.loops.specs.laws.Turned.{Turned, turn_none, turn_more, turn_all}
+use Rattle.loops.specs.laws.Turned.{turn_none, turn_more, turn_all}
 use Rattle.matrix.specs.Linear.{lower_turn}
 use Rattle.matrix.proofs.linear.lower.Goals as goal
 

@@ -1,11 +1,8 @@
-use mathlib.Core.Path.{◌≡◌, sym}
+use mathlib.Core.Path.{◌≡◌}
 use Prim.Native.Nat.{◌+◌, ◌-◌}
-use native.Mathlib.Omega.{arith}
-use lib.ListN.{length, length-set}
-use lib.Seq.{get_or-set_other}
-use lib.Ieee.{nan}
+use lib.ListN.{length}
 use Rattle.loops.specs.Cell.{at}
-use Rattle.loops.specs.laws.Turned.{Turned, turn_none, turn_more, turn_all}
+use Rattle.loops.specs.laws.Turned.{Turned}
 use Rattle.matrix.specs.Linear.{lower_turn}
 use Rattle.matrix.proofs.linear.lower.Given as goal
 

@@ -1,11 +1,9 @@
 -- `linear::pivots_inside` meets its contract: while no pivot is outside the test has not failed, and the first one outside
 -- fails it. Assumes nothing.
 use mathlib.Core.Path.{sym}
-use mathlib.Core.Bool.{true}
-use Prim.Native.Nat.{◌-◌}
 use native.Mathlib.Omega.{arith}
 use borrow.Author.Tests.{lt-ltb}
-use Rattle.loops.specs.laws.Turned.{Turned, turn_none, turn_more, turn_all}
+use Rattle.loops.specs.laws.Turned.{turn_none, turn_more, turn_all}
 use Rattle.matrix.specs.Linear.{inside_turn, inside_of}
 use Rattle.matrix.specs.laws.PivotLaws.{one_outside}
 use Rattle.matrix.proofs.linear.pivots_inside.Goals as goal

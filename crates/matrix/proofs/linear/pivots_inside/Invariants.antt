@@ -1,11 +1,7 @@
-use mathlib.Core.Path.{sym}
 use mathlib.Core.Bool.{true}
 use Prim.Native.Nat.{◌-◌}
-use native.Mathlib.Omega.{arith}
-use borrow.Author.Tests.{lt-ltb}
-use Rattle.loops.specs.laws.Turned.{Turned, turn_none, turn_more, turn_all}
-use Rattle.matrix.specs.Linear.{inside_turn, inside_of}
-use Rattle.matrix.specs.laws.PivotLaws.{one_outside}
+use Rattle.loops.specs.laws.Turned.{Turned}
+use Rattle.matrix.specs.Linear.{inside_turn}
 use Rattle.matrix.proofs.linear.pivots_inside.Given as goal
 
 abbrev pub invariant-loop-k : goal.invariant-loop-k

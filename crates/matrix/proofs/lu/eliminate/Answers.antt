@@ -2,14 +2,13 @@
 -- write, keeps the value that l has; and the turns that it leaves out are at zeros. Assumes nothing.
 use mathlib.Core.Path.{◌≡◌, refl, ◌∙◌}
 use mathlib.Core.List.{List}
-use Prim.Native.Nat.{ℕ, ◌+◌, ◌-◌, ◌*◌, ◌<◌}
+use Prim.Native.Nat.{ℕ, ◌+◌, ◌*◌, ◌<◌}
 use native.Mathlib.Omega.{arith}
-use lib.ListN.{length}
 use lib.Seq.{get_or-set_other}
 use lib.Ieee.{Float, nan}
 use Rattle.loops.specs.Cell.{cell, stored}
-use Rattle.loops.specs.laws.Turned.{Turned, turn_none, turn_more}
-use Rattle.matrix.specs.Rows.{added_of, cell_turn, Zeros}
+use Rattle.loops.specs.laws.Turned.{turn_none, turn_more}
+use Rattle.matrix.specs.Rows.{added_of, cell_turn}
 use Rattle.matrix.proofs.Writes.{columns_apart}
 use Rattle.matrix.proofs.Zeros.{zeros_stay, all_turned}
 use Rattle.matrix.proofs.lu.eliminate.Goals as goal
@@ -27,7 +26,7 @@ turned n k i j a b e₁ e₂ e₃ e₄ e₅ = e₅ ∙ rw (e₄, e₃, e₂, e�
 -- LOST add-j : tie.Need-overflow-add-j invariant-loop decreases-loop
 -- LOST add-j c =
 -- LOST     omega arith
--- LOST 
+-- LOST
 
 pub loop-j-init : goal.loop-j-init
 loop-j-init c =
@@ -52,7 +51,7 @@ put-requires c =
 -- LOST add-j-2 : tie.Need-overflow-add-j-2 invariant-loop decreases-loop
 -- LOST add-j-2 c =
 -- LOST     omega arith
--- LOST 
+-- LOST
 
 pub loop-j-smaller : goal.loop-j-smaller
 loop-j-smaller c =

@@ -1,15 +1,9 @@
-use mathlib.Core.Path.{◌≡◌, refl, ◌∙◌}
-use mathlib.Core.List.{List}
-use Prim.Native.Nat.{ℕ, ◌+◌, ◌-◌, ◌*◌, ◌<◌}
-use native.Mathlib.Omega.{arith}
+use mathlib.Core.Path.{◌≡◌}
+use Prim.Native.Nat.{◌+◌, ◌-◌, ◌*◌}
 use lib.ListN.{length}
-use lib.Seq.{get_or-set_other}
-use lib.Ieee.{Float, nan}
-use Rattle.loops.specs.Cell.{cell, stored}
-use Rattle.loops.specs.laws.Turned.{Turned, turn_none, turn_more}
-use Rattle.matrix.specs.Rows.{added_of, cell_turn, Zeros}
-use Rattle.matrix.proofs.Writes.{columns_apart}
-use Rattle.matrix.proofs.Zeros.{zeros_stay, all_turned}
+use Rattle.loops.specs.Cell.{cell}
+use Rattle.loops.specs.laws.Turned.{Turned}
+use Rattle.matrix.specs.Rows.{cell_turn, Zeros}
 use Rattle.matrix.proofs.lu.eliminate.Given as goal
 
 abbrev pub invariant-loop-j : goal.invariant-loop-j

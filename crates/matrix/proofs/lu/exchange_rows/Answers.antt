@@ -1,10 +1,6 @@
 -- `lu::exchange_rows` meets its contract: each turn of the loop is an exchange. Assumes nothing.
-use mathlib.Core.Path.{◌≡◌}
-use Prim.Native.Nat.{◌-◌, ◌*◌}
 use native.Mathlib.Omega.{arith}
-use lib.ListN.{length}
-use Rattle.loops.specs.laws.Turned.{Turned, turn_none, turn_more, turn_all}
-use Rattle.matrix.specs.Lu.{exchanged_of}
+use Rattle.loops.specs.laws.Turned.{turn_none, turn_more, turn_all}
 use Rattle.matrix.proofs.lu.exchange_rows.Goals as goal
 
 pub loop-j-init : goal.loop-j-init

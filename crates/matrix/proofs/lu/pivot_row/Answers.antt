@@ -3,12 +3,12 @@
 use mathlib.Core.Path.{◌≡◌, sym, ◌∙◌, ap}
 use mathlib.Core.Bool.{true, false}
 use mathlib.Core.List.{List}
-use Prim.Native.Nat.{ℕ, ◌+◌, ◌-◌, ◌<◌}
+use Prim.Native.Nat.{ℕ}
 use native.Mathlib.Omega.{arith}
 use lib.Ieee.{Float, lt}
 use Rattle.loops.specs.laws.ChoiceLaws.{when_true, when_false}
 use Rattle.loops.specs.Cell.{cell}
-use Rattle.loops.specs.laws.Turned.{Turned, turn_none, turn_more, turn_all}
+use Rattle.loops.specs.laws.Turned.{turn_none, turn_more, turn_all}
 use Rattle.number.specs.Helpers.{abs_of}
 use Rattle.matrix.specs.Magnitude.{magnitude_of}
 use Rattle.matrix.specs.Lu.{pivot_turn, pivot_of}
@@ -37,9 +37,9 @@ loop-i-preserved c = let at-loop = c.loop-i in
     let turn = c.loop-i-test in
     let met = c.magnitude-val.ensures ∙ ap magnitude_of c.get-in-loop-i.ensures in
     elim c.if-val-max_val.branch [
-      then-val-max_val w ↦ rw (w.m-is, w.max_val-is) (omega arith, met, turn_more at-loop.invariant.2 turn.true (taken _ _ _ _ _ at-loop.invariant.1 met w.if-val-max_val.true))
-    | else-val-max_val w ↦
-        rw (w.m-is, w.max_val-is) (at-loop.invariant.0, at-loop.invariant.1, turn_more at-loop.invariant.2 turn.true (passed _ _ _ _ _ at-loop.invariant.1 met w.if-val-max_val.false))
+      | then-val-max_val w ↦ rw (w.m-is, w.max_val-is) (omega arith, met, turn_more at-loop.invariant.2 turn.true (taken _ _ _ _ _ at-loop.invariant.1 met w.if-val-max_val.true))
+      | else-val-max_val w ↦
+          rw (w.m-is, w.max_val-is) (at-loop.invariant.0, at-loop.invariant.1, turn_more at-loop.invariant.2 turn.true (passed _ _ _ _ _ at-loop.invariant.1 met w.if-val-max_val.false))
     ]
 
 pub returns : goal.returns

@@ -1,7 +1,5 @@
 -- `lu::reach` meets its contract: from the end of the row back, all that was passed are zeros. Assumes nothing.
-use Prim.Native.Nat.{◌≤◌, ◌<◌}
 use native.Mathlib.Omega.{arith}
-use Rattle.matrix.specs.Rows.{Zeros}
 use Rattle.matrix.proofs.Zeros.{zeros_more}
 use Rattle.matrix.proofs.lu.reach.Goals as goal
 
@@ -12,7 +10,7 @@ loop-end-init c =
 -- LOST add-loop : tie.Need-overflow-add-loop invariant-loop decreases-loop
 -- LOST add-loop c =
 -- LOST     omega arith
--- LOST 
+-- LOST
 
 pub overflow_sub-last : goal.overflow_sub-last
 overflow_sub-last c =

@@ -1,7 +1,5 @@
 use Prim.Native.Nat.{◌≤◌, ◌<◌}
-use native.Mathlib.Omega.{arith}
 use Rattle.matrix.specs.Rows.{Zeros}
-use Rattle.matrix.proofs.Zeros.{zeros_more}
 use Rattle.matrix.proofs.lu.reach.Given as goal
 
 abbrev pub invariant-loop-end : goal.invariant-loop-end

@@ -2,7 +2,7 @@
 -- elimination finds in its cell, and row k, above all that is written, keeps its zeros. Assumes nothing.
 use mathlib.Core.Path.{◌≡◌, ◌∙◌}
 use mathlib.Core.List.{List}
-use Prim.Native.Nat.{ℕ, ◌+◌, ◌-◌, ◌*◌, ◌<◌}
+use Prim.Native.Nat.{ℕ, ◌+◌, ◌*◌, ◌<◌}
 use native.Mathlib.Omega.{arith}
 use lib.ListN.{length}
 use lib.Seq.{get_or-set_same}
@@ -10,10 +10,10 @@ use lib.Ieee.{Float, nan, neg}
 use Rattle.loops.specs.Cell.{cell, stored}
 use Rattle.loops.specs.laws.RowLaws.{inside}
 use Rattle.loops.specs.Loop.{loop}
-use Rattle.loops.specs.laws.Turned.{Turned, turn_none, turn_more, turn_all}
+use Rattle.loops.specs.laws.Turned.{turn_none, turn_more, turn_all}
 use Rattle.loops.specs.Arithmetic.{◌⊗◌}
 use Rattle.matrix.specs.Lu.{scale_turn}
-use Rattle.matrix.specs.Rows.{cell_turn, row_turn, Zeros}
+use Rattle.matrix.specs.Rows.{cell_turn, row_turn}
 use Rattle.matrix.proofs.Zeros.{zeros_stay}
 use Rattle.matrix.proofs.lu.rows.Goals as goal
 
@@ -32,7 +32,7 @@ reach-end-requires c =
 -- LOST add-i : tie.Need-overflow-add-i invariant-loop decreases-loop
 -- LOST add-i c =
 -- LOST     omega arith
--- LOST 
+-- LOST
 
 pub loop-i-init : goal.loop-i-init
 loop-i-init c =
@@ -61,7 +61,7 @@ eliminate-requires c = let given = c.args in
 -- LOST add-i-2 : tie.Need-overflow-add-i-2 invariant-loop decreases-loop
 -- LOST add-i-2 c =
 -- LOST     omega arith
--- LOST 
+-- LOST
 
 pub loop-i-smaller : goal.loop-i-smaller
 loop-i-smaller c =

@@ -1,15 +1,14 @@
 -- `lu::stages` meets its contract: what the stages from k on make of a and ip as they are then is what all of them make of a
 -- and ip as they came. Assumes nothing.
-use mathlib.Core.Path.{◌≡◌, sym, ◌∙◌, ap}
-use Prim.Native.Nat.{◌-◌, ◌*◌, ◌≤◌}
+use mathlib.Core.Path.{sym, ◌∙◌, ap}
 use native.Mathlib.Omega.{arith}
 use native.Mathlib.Nat.{sub-zero}
 use mathlib.Core.Bool.{Bool}
 use lib.Ieee.{Float, eq}
-use lib.ListN.{length, length-set}
+use lib.ListN.{length-set}
 use Rattle.loops.specs.laws.ChoiceLaws.{when_true, when_false}
 use Rattle.loops.specs.Arithmetic.{+0}
-use Rattle.matrix.specs.Lu.{last_of, stages_of}
+use Rattle.matrix.specs.Lu.{last_of}
 use Rattle.matrix.proofs.Stages.{no_stage_left, stage_fails, stage_passes}
 use Rattle.matrix.proofs.lu.stages.Goals as goal
 

@@ -1,14 +1,7 @@
-use mathlib.Core.Path.{◌≡◌, sym, ◌∙◌, ap}
+use mathlib.Core.Path.{◌≡◌}
 use Prim.Native.Nat.{◌-◌, ◌*◌, ◌≤◌}
-use native.Mathlib.Omega.{arith}
-use native.Mathlib.Nat.{sub-zero}
-use mathlib.Core.Bool.{Bool}
-use lib.Ieee.{Float, eq}
-use lib.ListN.{length, length-set}
-use Rattle.loops.specs.laws.ChoiceLaws.{when_true, when_false}
-use Rattle.loops.specs.Arithmetic.{+0}
-use Rattle.matrix.specs.Lu.{last_of, stages_of}
-use Rattle.matrix.proofs.Stages.{no_stage_left, stage_fails, stage_passes}
+use lib.ListN.{length}
+use Rattle.matrix.specs.Lu.{stages_of}
 use Rattle.matrix.proofs.lu.stages.Given as goal
 
 abbrev pub invariant-loop-k : goal.invariant-loop-k

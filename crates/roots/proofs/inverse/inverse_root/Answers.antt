@@ -6,7 +6,6 @@ use borrow.Author.Tests.{le-leb, lt-leb}
 use Rattle.loops.specs.laws.ChoiceLaws.{when_true, when_false, and_fails, and_passes}
 use Rattle.loops.specs.Refusal.{gives}
 use Rattle.roots.specs.Roots.{root_said, inverse_root_of}
-use borrow.Author.Rules.{rules}
 use Rattle.roots.proofs.inverse.inverse_root.Goals as goal
 
 pub returns-then-k-lt1 : goal.returns-then-k-lt1

@@ -9,7 +9,6 @@ use Rattle.roots.specs.Scaled.{Scaled, Asked}
 use Rattle.roots.proofs.Number.{pattern_is_number}
 use Rattle.roots.proofs.Doubles.{nan_root, zero_root, negative_root, infinity_root, pattern_above_zero, finite_root}
 use Rattle.loops.specs.laws.FloatLaws.{is_number}
-use borrow.Author.Rules.{rules}
 use Rattle.roots.proofs.inverse.inverse_root_of.Goals as goal
 
 asked : {k b digits places : ℕ} → 1 ≤ k → k ≤ 7 → 0 < b → Scaled b digits places → Asked k digits places

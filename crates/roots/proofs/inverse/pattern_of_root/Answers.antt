@@ -1,5 +1,4 @@
 -- `roots::inverse::pattern_of_root` meets its contract: what is settled is the root, and so is what the search finds. Assumes nothing.
-use borrow.Author.Rules.{rules}
 use Rattle.roots.proofs.inverse.pattern_of_root.Goals as goal
 
 pub returns-in-At : goal.returns-in-At

@@ -1,9 +1,8 @@
 -- `roots::power::at_most` meets its contract: before each turn the answer so far is that for the digits below i. Assumes nothing.
 use mathlib.Core.Path.{◌≡◌, refl, sym, ◌∙◌}
-use Prim.Native.Nat.{◌-◌, ◌^◌, ◌≤◌}
+use Prim.Native.Nat.{◌^◌}
 use native.Mathlib.Numerals.{add-one}
 use native.Mathlib.Omega.{arith}
-use lib.Dec.{leb}
 use lib.ListN.{get_or}
 use Rattle.roots.specs.Numeral.{numeral, base}
 use Rattle.roots.proofs.power.NumeralLaws.{numeral_small, compare_digits}

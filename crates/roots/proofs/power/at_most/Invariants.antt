@@ -1,11 +1,7 @@
-use mathlib.Core.Path.{◌≡◌, refl, sym, ◌∙◌}
-use Prim.Native.Nat.{◌-◌, ◌^◌, ◌≤◌}
-use native.Mathlib.Numerals.{add-one}
-use native.Mathlib.Omega.{arith}
+use mathlib.Core.Path.{◌≡◌}
+use Prim.Native.Nat.{◌-◌, ◌≤◌}
 use lib.Dec.{leb}
-use lib.ListN.{get_or}
 use Rattle.roots.specs.Numeral.{numeral, base}
-use Rattle.roots.proofs.power.NumeralLaws.{numeral_small, compare_digits}
 use Rattle.roots.proofs.power.at_most.Given as goal
 
 abbrev pub invariant-loop-i : goal.invariant-loop-i

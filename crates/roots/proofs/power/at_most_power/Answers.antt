@@ -1,12 +1,12 @@
 -- `roots::power::at_most_power` meets its contract: before each turn the row stands for m to the power of the turns done, times n,
 -- and it has room for one factor more. Assumes nothing.
 use mathlib.Core.Path.{◌≡◌, sym, ap, ◌∙◌}
-use Prim.Native.Nat.{ℕ, ◌-◌, ◌*◌, ◌^◌, ◌≤◌}
+use Prim.Native.Nat.{ℕ, ◌*◌}
 use native.Mathlib.Nat.{pow-zero, one-mul}
 use native.Mathlib.Omega.{arith}
 use borrow.Author.Tests.{le-leb}
 use Rattle.roots.proofs.Powers.{once_more}
-use Rattle.roots.proofs.power.Rows.{Writes, two_digits, one_digit, has_room, below_power}
+use Rattle.roots.proofs.power.Rows.{two_digits, one_digit, has_room, below_power}
 use Rattle.roots.proofs.power.at_most_power.Goals as goal
 
 pub returns-then-t-ge434 : goal.returns-then-t-ge434

@@ -1,10 +1,5 @@
-use mathlib.Core.Path.{◌≡◌, sym, ap, ◌∙◌}
-use Prim.Native.Nat.{ℕ, ◌-◌, ◌*◌, ◌^◌, ◌≤◌}
-use native.Mathlib.Nat.{pow-zero, one-mul}
-use native.Mathlib.Omega.{arith}
-use borrow.Author.Tests.{le-leb}
-use Rattle.roots.proofs.Powers.{once_more}
-use Rattle.roots.proofs.power.Rows.{Writes, two_digits, one_digit, has_room, below_power}
+use Prim.Native.Nat.{◌-◌, ◌*◌, ◌^◌, ◌≤◌}
+use Rattle.roots.proofs.power.Rows.{Writes}
 use Rattle.roots.proofs.power.at_most_power.Given as goal
 
 abbrev pub invariant-loop : goal.invariant-loop

@@ -1,12 +1,12 @@
 -- `roots::power::times` meets its contract: before each turn the digits below i, with what is owed, are the digits read times m.
 -- Assumes nothing.
 use mathlib.Core.Path.{◌≡◌, refl}
-use Prim.Native.Nat.{ℕ, ◌+◌, ◌-◌, ◌*◌, ◌/◌, ◌%◌, ◌^◌, ◌<◌}
+use Prim.Native.Nat.{◌+◌, ◌*◌, ◌/◌, ◌%◌}
 use native.Mathlib.Omega.{arith}
 use lib.ListN.{get_or}
 use Rattle.roots.specs.Numeral.{base, room}
 use Rattle.roots.proofs.power.NumeralLaws.{nothing_owed}
-use Rattle.roots.proofs.power.Multiplied.{Multiplied, multiplied_none, multiplied_more, product_small, product_smaller, sum_small}
+use Rattle.roots.proofs.power.Multiplied.{multiplied_none, multiplied_more, product_small, sum_small}
 use Rattle.roots.proofs.power.times.Goals as goal
 
 pub loop-i-init : goal.loop-i-init

@@ -2,7 +2,6 @@
 use Prim.Native.Nat.{◌+◌, ◌*◌, ◌%◌, ◌^◌}
 use native.Mathlib.Omega.{arith}
 use Rattle.roots.proofs.Number.{pattern_is_number}
-use borrow.Author.Rules.{rules}
 use Rattle.roots.proofs.root_guess.fraction.Goals as goal
 
 pub float_from_bits-result : goal.float_from_bits-result

@@ -6,7 +6,6 @@ use lib.Dec.{T}
 use lib.Ieee.{binary64, to_bits}
 use lib.Ieee.Bits.{to_bits-lt}
 use Rattle.loops.specs.laws.FloatLaws.{is_number}
-use borrow.Author.Rules.{rules}
 use Rattle.roots.proofs.root_guess.pattern.Goals as goal
 
 pub float_to_bits-b : goal.float_to_bits-b

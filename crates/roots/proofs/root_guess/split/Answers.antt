@@ -4,7 +4,6 @@ use mathlib.Core.Path.{◌≡◌}
 use Prim.Native.Nat.{ℕ, ◌+◌, ◌-◌, ◌*◌, ◌/◌, ◌%◌, ◌≤◌, ◌<◌}
 use native.Mathlib.Nat.{div-add-mod', mod-lt, div-le_self}
 use native.Mathlib.Omega.{arith}
-use borrow.Author.Rules.{rules}
 use Rattle.roots.proofs.root_guess.split.Goals as goal
 
 rounded_up : (d k : ℕ) → 1 ≤ k → (d ≤ k * ((d + k - 1) / k)) × (k * ((d + k - 1) / k) < d + k)

@@ -8,7 +8,6 @@ use lib.Pow.{shl_exact}
 use Rattle.roots.proofs.Scaling.{few_places}
 use Rattle.roots.specs.Quick.{LimitIs}
 use Rattle.roots.proofs.root_quick.QuickLaws.{limit_is}
-use borrow.Author.Rules.{rules}
 use Rattle.roots.proofs.root_quick.limit.Goals as goal
 
 shifted : (k q g : ℕ) → q * k + g ≤ 1021 * k + 1085 → 1021 * k + 1085 - (q * k + g) ≤ 63

@@ -1,6 +1,5 @@
 -- `roots::root_quick::place_of` meets its contract: the gap and the room are those of the side on which p lies. Assumes nothing.
 use native.Mathlib.Omega.{arith}
-use borrow.Author.Rules.{rules}
 use Rattle.roots.proofs.root_quick.place_of.Goals as goal
 use Rattle.roots.proofs.root_quick.place_of.Goals.{then-p-h, else-p-h, then-p-h-2, else-p-h-2}
 

@@ -1,6 +1,6 @@
 -- `roots::root_quick::settle` meets its contract: where the limit lies close above the middle's upper part, or close below, the guess or the pattern
 -- below it is the root. Assumes nothing.
-use mathlib.Core.Path.{◌≡◌, refl, ◌∙◌}
+use mathlib.Core.Path.{◌≡◌, ◌∙◌}
 use Prim.Native.Nat.{ℕ, ◌+◌, ◌-◌, ◌*◌, ◌/◌, ◌^◌, ◌≤◌, ◌<◌}
 use native.Mathlib.Nat.{div-mul-le_self}
 use native.Mathlib.Omega.{arith}
@@ -10,7 +10,6 @@ use Rattle.roots.specs.Quick.{Near, LimitIs, placed}
 use Rattle.roots.specs.declared.root_quick.Place.TheVariants.{Above, Below}
 use Rattle.roots.proofs.root_quick.QuickLaws.{some_limit, small_reach}
 use Rattle.roots.proofs.root_quick.QuickRoot.{root_above, root_below}
-use borrow.Author.Rules.{rules}
 use Rattle.roots.proofs.root_quick.settle.Goals as goal
 
 -- the two ways to be sure, whatever the numbers are called

@@ -1,10 +1,9 @@
 -- `roots::root_quick::upper` meets its contract: before each turn h is the upper part of the factors so far. Assumes nothing.
 use mathlib.Core.Path.{◌≡◌}
-use Prim.Native.Nat.{◌-◌, ◌*◌, ◌^◌, ◌≤◌}
+use Prim.Native.Nat.{◌*◌, ◌^◌}
 use native.Mathlib.Nat.{pow-zero, one-mul}
 use native.Mathlib.Omega.{arith}
 use Rattle.roots.proofs.Powers.{once_more}
-use Rattle.roots.specs.Quick.{Near}
 use Rattle.roots.proofs.root_quick.QuickLaws.{near_none, near_more}
 use Rattle.roots.proofs.root_quick.upper.Goals as goal
 

@@ -1,10 +1,5 @@
-use mathlib.Core.Path.{◌≡◌}
 use Prim.Native.Nat.{◌-◌, ◌*◌, ◌^◌, ◌≤◌}
-use native.Mathlib.Nat.{pow-zero, one-mul}
-use native.Mathlib.Omega.{arith}
-use Rattle.roots.proofs.Powers.{once_more}
 use Rattle.roots.specs.Quick.{Near}
-use Rattle.roots.proofs.root_quick.QuickLaws.{near_none, near_more}
 use Rattle.roots.proofs.root_quick.upper.Given as goal
 
 abbrev pub invariant-loop : goal.invariant-loop

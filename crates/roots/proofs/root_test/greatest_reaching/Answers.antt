@@ -2,7 +2,7 @@
 -- Assumes nothing.
 use mathlib.Core.Path.{◌≡◌, sym, ◌∙◌}
 use mathlib.Core.Bool.{true, false}
-use Prim.Native.Nat.{ℕ, ◌+◌, ◌-◌, ◌^◌, ◌≤◌, ◌<◌}
+use Prim.Native.Nat.{ℕ, ◌+◌, ◌<◌}
 use native.Mathlib.Omega.{arith}
 use Rattle.roots.specs.Roots.{infinity_bits}
 use Rattle.roots.specs.laws.RootLaws.{rounded_is, zero_reaches, fails_past_infinity}
@@ -45,8 +45,8 @@ loop-lo-preserved c =
     let b = c.between-b.ensures in
     let test = sym c.reaches.ensures in (
       elim c.if-reaches.branch [
-        then-reaches w ↦ rw (w.lo-is, w.hi-is) (raised here b.0 b.1 (test ∙ w.if-reaches.true))
-      | else-reaches w ↦ rw (w.lo-is, w.hi-is) (lowered here b.0 b.1 (test ∙ w.if-reaches.false))
+        | then-reaches w ↦ rw (w.lo-is, w.hi-is) (raised here b.0 b.1 (test ∙ w.if-reaches.true))
+        | else-reaches w ↦ rw (w.lo-is, w.hi-is) (lowered here b.0 b.1 (test ∙ w.if-reaches.false))
       ],
       omega arith,
     )

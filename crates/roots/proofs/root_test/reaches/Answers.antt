@@ -1,10 +1,8 @@
 -- `roots::root_test::reaches` meets its contract: the edge's digits to the power k, times those of x, against a power of two.
 -- Assumes nothing.
 use mathlib.Core.Path.{sym, ◌∙◌}
-use Prim.Native.Nat.{◌*◌, ◌≤◌}
 use native.Mathlib.Omega.{arith}
 use Rattle.roots.proofs.Scaling.{few_places, reaches_by_power, too_far}
-use borrow.Author.Rules.{rules}
 use Rattle.roots.proofs.root_test.reaches.Goals as goal
 
 pub overflow_mul-used : goal.overflow_mul-used

@@ -1,6 +1,5 @@
 -- `roots::sqrt_guess::significand` meets its contract. `to_bits` is asked only of what equals itself, and so is no NaN.
 -- Assumes nothing.
-use borrow.Author.Rules.{rules}
 use Rattle.loops.specs.laws.FloatLaws.{is_number}
 use Rattle.roots.proofs.sqrt_guess.significand.Goals as goal
 

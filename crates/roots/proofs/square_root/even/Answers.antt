@@ -3,7 +3,6 @@
 use mathlib.Core.Path.{◌≡◌}
 use Prim.Native.Nat.{◌%◌}
 use native.Mathlib.Omega.{arith}
-use borrow.Author.Rules.{rules}
 use Rattle.roots.proofs.square_root.even.Goals as goal
 
 pub returns-then-e-eq0 : goal.returns-then-e-eq0

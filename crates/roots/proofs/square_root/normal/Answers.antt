@@ -1,7 +1,6 @@
 -- `roots::square_root::normal` meets its contract.
 -- Assumes nothing.
 use mathlib.Core.Path.{sym, ◌∙◌}
-use borrow.Author.Rules.{rules}
 use Rattle.roots.specs.laws.SqrtLaws.{sqrt_normal}
 use Rattle.roots.proofs.square_root.normal.Goals as goal
 

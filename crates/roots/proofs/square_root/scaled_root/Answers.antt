@@ -4,7 +4,6 @@
 use mathlib.Core.Path.{◌≡◌}
 use Prim.Native.Nat.{ℕ, ◌+◌, ◌*◌, ◌%◌, ◌^◌, ◌≤◌, ◌<◌}
 use native.Mathlib.Omega.{arith}
-use borrow.Author.Rules.{rules}
 use Rattle.roots.specs.WholeRoot.{NearestWhole}
 use Rattle.roots.proofs.Number.{pattern_is_number}
 use Rattle.roots.specs.laws.ScaledRoot.{root_range, scaled_range, scaled_root_is}

@@ -1,6 +1,5 @@
 -- `roots::units::units_of` meets its contract: the two ways are the patterns whose exponent's field is 0 and the others. Assumes nothing.
 use Rattle.roots.proofs.Scaling.{scaled_small, scaled_normal}
-use borrow.Author.Rules.{rules}
 use Rattle.roots.proofs.units.units_of.Goals as goal
 
 pub returns-then-b-lt-HIDDEN : goal.returns-then-b-lt-HIDDEN

@@ -1,9 +1,4 @@
-use mathlib.Core.Path.{◌≡◌, sym, ◌∙◌}
 use Prim.Native.Nat.{ℕ, ◌+◌, ◌-◌, ◌*◌, ◌^◌, ◌≤◌, ◌<◌}
-use native.Mathlib.Nat.{mul-le-mul_right}
-use native.Mathlib.Omega.{arith}
-use borrow.Author.Tests.{ltb-true, ltb-false}
-use Rattle.roots.specs.WholeRoot.{NearestWhole}
 use Rattle.roots.proofs.whole_root.search.Given as goal
 
 pub record Bracket (n lo hi : ℕ) : Type 0 where

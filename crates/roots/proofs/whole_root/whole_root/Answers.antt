@@ -1,6 +1,5 @@
 -- `roots::whole_root::whole_root` meets its contract: each answer passed the test, or came from the search.
 -- Assumes nothing.
-use borrow.Author.Rules.{rules}
 use Rattle.roots.proofs.whole_root.whole_root.Goals as goal
 
 pub returns-then-is_root : goal.returns-then-is_root

@@ -1,5 +1,4 @@
 -- `text::page::digit` meets its contract: the two ways of the code are the two of `digit`. Assumes nothing.
-use borrow.Author.Rules.{rules}
 use borrow.Author.Tests.{lt-ltb, le-ltb}
 use Rattle.loops.specs.laws.ChoiceLaws.{when_true, when_false}
 use mathlib.Core.Path.{sym}

@@ -1,8 +1,7 @@
 -- `text::page::places` meets its contract. The invariant: so many digits are counted, and the rest has the others.
 -- The measure is how many of twenty may still come. Assumes nothing.
-use Prim.Native.Nat.{◌-◌}
 use native.Mathlib.Omega.{arith}
-use Rattle.text.proofs.Counting.{Counted, count_starts, count_goes_on, count_ends}
+use Rattle.text.proofs.Counting.{count_starts, count_goes_on, count_ends}
 use Rattle.text.proofs.page.places.Goals as goal
 
 pub loop-rest-init : goal.loop-rest-init

@@ -1,6 +1,5 @@
 use Prim.Native.Nat.{◌-◌}
-use native.Mathlib.Omega.{arith}
-use Rattle.text.proofs.Counting.{Counted, count_starts, count_goes_on, count_ends}
+use Rattle.text.proofs.Counting.{Counted}
 use Rattle.text.proofs.page.places.Given as goal
 
 abbrev pub invariant-loop-rest : goal.invariant-loop-rest

@@ -1,8 +1,7 @@
 -- `text::page::put_byte` meets its contract: the three ways of the code are the three of `puts`. Assumes nothing.
 use mathlib.Core.Path.{refl, sym, ◌∙◌}
-use borrow.Author.Rules.{rules}
 use borrow.Author.Tests.{leb-true}
-use Rattle.text.proofs.Putting.{room_inside, room_fits, puts_refused, puts_on_full, stored_is_put}
+use Rattle.text.proofs.Putting.{room_inside, puts_refused, puts_on_full, stored_is_put}
 use Rattle.text.proofs.page.put_byte.Goals as goal
 
 pub bounds-out-at : goal.bounds-out-at

@@ -1,8 +1,7 @@
 -- `text::page::put_bytes` meets its contract: the three ways of the code are the three of `puts`. Assumes nothing.
 use mathlib.Core.Path.{refl, sym, ◌∙◌}
-use borrow.Author.Rules.{rules}
 use borrow.Author.Tests.{leb-true}
-use Rattle.text.proofs.Putting.{room_fits, puts_in_room, puts_refused, puts_on_full}
+use Rattle.text.proofs.Putting.{puts_in_room, puts_refused, puts_on_full}
 use Rattle.text.proofs.page.put_bytes.Goals as goal
 
 pub lay-requires : goal.lay-requires

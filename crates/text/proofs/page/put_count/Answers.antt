@@ -1,5 +1,4 @@
 -- `text::page::put_count` meets its contract: a count's digits are the digits that `places` counted. Assumes nothing.
-use borrow.Author.Rules.{rules}
 use Rattle.text.proofs.page.put_count.Goals as goal
 
 pub returns : goal.returns

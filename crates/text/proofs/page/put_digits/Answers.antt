@@ -1,9 +1,8 @@
 -- `text::page::put_digits` meets its contract: the three ways of the code are the three of `puts`. Assumes nothing.
 use mathlib.Core.Path.{sym, ◌∙◌}
-use borrow.Author.Rules.{rules}
 use borrow.Author.Tests.{leb-true}
 use Rattle.text.specs.laws.DigitLaws.{length_spelled}
-use Rattle.text.proofs.Putting.{room_fits, puts_in_room, puts_refused, puts_on_full}
+use Rattle.text.proofs.Putting.{puts_in_room, puts_refused, puts_on_full}
 use Rattle.text.proofs.page.put_digits.Goals as goal
 
 pub spell-requires : goal.spell-requires

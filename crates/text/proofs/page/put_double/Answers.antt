@@ -1,5 +1,4 @@
 -- `text::page::put_double` meets its contract: the digits are those of the double's pattern. Assumes nothing.
-use borrow.Author.Rules.{rules}
 use Rattle.text.proofs.page.put_double.Goals as goal
 
 pub returns : goal.returns

@@ -1,12 +1,10 @@
 -- `text::page::spell` meets its contract. The invariant: what is left to write, on the bytes as they are, comes to what was to
 -- be written at the start. The measure is how many digits are left. Assumes nothing.
-use mathlib.Core.Path.{◌≡◌, refl, sym, ◌∙◌}
-use Prim.Native.Nat.{◌≤◌}
+use mathlib.Core.Path.{refl, sym, ◌∙◌}
 use native.Mathlib.Nat.{mod-lt}
 use native.Mathlib.Omega.{arith}
-use lib.ListN.{length, length-set}
-use Rattle.text.specs.Digits.{digit}
-use Rattle.text.proofs.Spelling.{written_into, written_into_more, none_left, spelled_into_is_spelled}
+use lib.ListN.{length-set}
+use Rattle.text.proofs.Spelling.{written_into_more, none_left, spelled_into_is_spelled}
 use Rattle.text.proofs.page.spell.Goals as goal
 
 pub loop-left-init : goal.loop-left-init

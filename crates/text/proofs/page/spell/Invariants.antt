@@ -1,10 +1,8 @@
-use mathlib.Core.Path.{◌≡◌, refl, sym, ◌∙◌}
+use mathlib.Core.Path.{◌≡◌}
 use Prim.Native.Nat.{◌≤◌}
-use native.Mathlib.Nat.{mod-lt}
-use native.Mathlib.Omega.{arith}
-use lib.ListN.{length, length-set}
+use lib.ListN.{length}
 use Rattle.text.specs.Digits.{digit}
-use Rattle.text.proofs.Spelling.{written_into, written_into_more, none_left, spelled_into_is_spelled}
+use Rattle.text.proofs.Spelling.{written_into}
 use Rattle.text.proofs.page.spell.Given as goal
 
 abbrev pub invariant-loop-left : goal.invariant-loop-left

@@ -5,7 +5,6 @@ use mathlib.Core.Bool.{false, not}
 use lib.Dec.{T}
 use lib.Ieee.{Float, nan, inf, fin, binary64, to_bits, is_nan, ne}
 use lib.Ieee.Compare.{differs_from_itself}
-use borrow.Author.Rules.{rules}
 use Rattle.text.proofs.pattern.bits.Goals as goal
 
 -- what equals itself is no NaN

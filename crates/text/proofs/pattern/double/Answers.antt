@@ -1,13 +1,12 @@
 -- `text::pattern::double` meets its contract: the code's test is the one by which a pattern is a NaN's, and what is read
 -- from such a pattern is the NaN that 0 / 0 is. Assumes nothing.
 use mathlib.Core.Path.{◌≡◌, refl, sym, subst, ◌∙◌}
-use mathlib.Core.Bool.{Bool, true, false, not}
+use mathlib.Core.Bool.{Bool, true, not}
 use Prim.Native.Nat.{ℕ, ◌<◌, ◌≤◌, ◌%◌}
 use lib.Dec.{T}
 use lib.Ieee.{Float, nan, inf, fin, binary64, of_bits, div, is_nan, nan_bits}
 use lib.Ieee.Bits.{nan_bits_is, nan_bits_above}
 use borrow.Author.Tests.{lt-ltb, le-ltb}
-use borrow.Author.Rules.{rules}
 use Rattle.text.proofs.pattern.double.Goals as goal
 
 -- the one value that is a NaN

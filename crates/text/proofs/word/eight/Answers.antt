@@ -1,12 +1,12 @@
 -- `text::word::eight` meets its contract. The invariant: the word so far is that of the bytes passed, and below 256 to the
 -- power of how many they are, so that the next step does not wrap. The measure is how many are left. Assumes nothing.
-use Prim.Native.Nat.{ℕ, ◌+◌, ◌<◌, ◌≤◌, ◌^◌, ◌-◌}
+use Prim.Native.Nat.{ℕ, ◌+◌, ◌<◌, ◌≤◌, ◌^◌}
 use native.Mathlib.Nat.{pow-suc, pow-le-pow_right, lt_of_lt_of_le}
 use lib.Dec.{lit<}
 use native.Mathlib.Numerals.{add-one}
 use native.Mathlib.Omega.{arith}
-use Rattle.loops.specs.laws.Turned.{Turned, turn_none, turn_more, turn_all}
-use Rattle.text.specs.Words.{word_turn, word_from}
+use Rattle.loops.specs.laws.Turned.{turn_none, turn_more, turn_all}
+use Rattle.text.specs.Words.{word_from}
 use Rattle.text.proofs.word.eight.Goals as goal
 
 -- with a byte to come, the word is below 256 to the power 7

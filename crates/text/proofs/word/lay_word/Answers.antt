@@ -1,10 +1,9 @@
 -- `text::word::lay_word` meets its contract. The invariant: what is left to write, on the bytes as they are, comes to what was to
 -- be written at the start. The measure is how many bytes are left. Assumes nothing.
-use mathlib.Core.Path.{◌≡◌, refl, sym, ◌∙◌}
-use Prim.Native.Nat.{◌≤◌}
+use mathlib.Core.Path.{refl, sym, ◌∙◌}
 use native.Mathlib.Omega.{arith}
-use lib.ListN.{length, length-set}
-use Rattle.text.proofs.Spelling.{written_into, written_into_more, none_left, bytes_into_are_bytes}
+use lib.ListN.{length-set}
+use Rattle.text.proofs.Spelling.{written_into_more, none_left, bytes_into_are_bytes}
 use Rattle.text.proofs.word.lay_word.Goals as goal
 
 pub loop-left-init : goal.loop-left-init

@@ -1,8 +1,7 @@
-use mathlib.Core.Path.{◌≡◌, refl, sym, ◌∙◌}
+use mathlib.Core.Path.{◌≡◌}
 use Prim.Native.Nat.{◌≤◌}
-use native.Mathlib.Omega.{arith}
-use lib.ListN.{length, length-set}
-use Rattle.text.proofs.Spelling.{written_into, written_into_more, none_left, bytes_into_are_bytes}
+use lib.ListN.{length}
+use Rattle.text.proofs.Spelling.{written_into}
 use Rattle.text.proofs.word.lay_word.Given as goal
 
 abbrev pub invariant-loop-left : goal.invariant-loop-left
