@@ -1,6 +1,6 @@
 -- What holds of a form or a job that was read: it has at most as many components as are served, so that the arrays have room for them, and its
 -- file is as long as they make it. An edit of `head_read` is to be refused for what it says, so this stands here and not in specs/.
-use Rattle.std.specs.Prelude.{◌≡◌, refl, true, List, ℕ, ◌*◌, ◌≤◌, ltb, length, Float}
+use Rattle.std.specs.Prelude.{◌≡◌, refl, List, ℕ, ◌*◌, ◌≤◌, ltb, length, Float}
 use Rattle.std.proofs.Common.{sym, ap, ◌∙◌, ltb-false}
 use Rattle.std.proofs.Math.Nat.{mul-le-mul}
 use Rattle.loops.specs.laws.ChoiceLaws.{either}

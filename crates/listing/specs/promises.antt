@@ -1,6 +1,6 @@
--- What is promised of the whole output, of the pages that give it, and of jobs that were written.
+-- What is promised of the whole output, of the pages that give it, and of jobs that were written. What its last two lines tell stands in
+-- proofs/LastLine.antt.
 pub mod Whole
-pub mod LastLine
 pub mod Written
 pub mod PagesJoin
 pub mod PagesEnd

@@ -7,3 +7,4 @@ pub mod StrictLaws
 pub mod EdgeLaws
 pub mod PastLaws
 pub mod GuessLaw
+pub mod NearLaw

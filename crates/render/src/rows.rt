@@ -1,5 +1,5 @@
 // Samples, one after another.
-ghost use Rattle.std.specs.Prelude.{◌≡◌, ◌+◌, ◌*◌, ◌≤◌, ◌^◌, length};
+ghost use Rattle.std.specs.Prelude.{◌≡◌, ◌+◌, ◌*◌, ◌<◌, ◌≤◌, ◌^◌, length};
 ghost use Rattle.matrix.specs.Size.{max_n};
 ghost use Rattle.render.specs.Sampled.{rows};
 
@@ -16,7 +16,7 @@ pub(crate) fn write_rows(
     count: usize,
     out: &mut [f64],
 )
-    requires { (n ≤ max_n) × ((length cont.now ≡ 7 * n) × ((count * n ≤ length out.old) × (k + count ≤ 2 ^ 53))) }
+    requires { (n ≤ max_n) × ((length cont.now ≡ 7 * n) × ((count * n ≤ length out.old) × (0 < count → k + count ≤ 2 ^ 53))) }
     ensures { out.new ≡ rows notice n cont.now k count out.old }
 {
     for i in 0..count {

@@ -1,15 +1,12 @@
 -- What holds of a job that was read: the file is as long as its components make it, and as many numbers are read of it as are asked for.
 -- That it has at most as many components as are served stands in proofs/Serving.antt.
-use Rattle.std.specs.Prelude.{◌≡◌, refl, true, List, [], ◌∷◌, ◌++◌, map, ℕ, zero, suc, ◌≤◌, ltb, eqb, length, Float}
-use Rattle.std.proofs.Common.{ap, ◌∙◌, arith, length-append, ltb-false, eqb-true}
-use Rattle.loops.specs.laws.ChoiceLaws.{either, and_first}
-use Rattle.loops.specs.Refusal.{Outcome, gives, refuses}
+use Rattle.std.specs.Prelude.{◌≡◌, refl, true, List, [], ◌∷◌, ◌++◌, map, ℕ, zero, suc, eqb, length, Float}
+use Rattle.std.proofs.Common.{ap, ◌∙◌, arith, length-append, eqb-true}
+use Rattle.loops.specs.laws.ChoiceLaws.{and_first}
+use Rattle.loops.specs.Refusal.{gives, refuses}
 use Rattle.job.specs.declared.packed.Head.{Head}
-use Rattle.job.specs.declared.form.Form.{Form}
-use Rattle.job.specs.declared.reader.Job.{Job}
-use Rattle.job.specs.Types.{max_n}
-use Rattle.job.specs.Packed.{head_length, head_bits, head_of, words_of, value_of, doubles_of, length_for}
-use Rattle.job.specs.Reading.{accepted_of, form_of, head_read, form_read, job_of, placed, read_of}
+use Rattle.job.specs.Packed.{words_of, value_of, doubles_of, length_for}
+use Rattle.job.specs.Reading.{accepted_of}
 
 -- a refusal gives nothing
 pub refuses_nothing : {A B : Type 0} {number : ℕ} {x : B} → refuses number ≡ gives x → A

@@ -57,7 +57,8 @@ answer_short :
 answer_short (Derivative x) y steps evals e few = omega arith
 answer_short (Jacobian x) y steps evals e few = omega arith
 answer_short (Start x) y steps evals e few = omega (arith, length_state 73 x y)
-answer_short (Step old new start h) y steps evals e few = omega (arith, length_state 83 new y)
+-- (as long whichever of the two x it tells)
+answer_short (Step old new start h) y steps evals e few = omega (arith, length_state 83 old y, length_state 83 new y)
 answer_short (End status h) y steps evals e few = absurd (true≢false (sym e))
 answer_short (Refused why) y steps evals e few = absurd (true≢false (sym e))
 

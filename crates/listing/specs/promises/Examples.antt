@@ -82,17 +82,21 @@ job_of_one_step = 0x04 ∷ 0x00 ∷ 0x00 ∷ 0x42 ∷ 0x00 ∷ doubles
 
 -- what was read as a configuration; for a refusal any other
 abbrev configured : ReadOutcome → Configuration
-configured (gives job, y0, a) = configuration_of job (take job.n y0)
+configured (gives j, y0, a) = configuration_of j (take j.n y0)
 configured (refuses number, y0, a) =
     configuration_of record { n = 0; max_steps = 0; newton_maxiter = 0; x0 = +0; xend = +0; first_step = Unset; rtol = +0; atol = +0 } []
 
 abbrev is_read : ReadOutcome → Bool
-is_read (gives job, y0, a) = true
+is_read (gives j, y0, a) = true
 is_read (refuses number, y0, a) = false
 
 read_lines : (r : ReadOutcome) → is_read r ≡ true → lines_for r ≡ lines_from (suc (most (configured r))) r.2 (beginning (configured r) blank_work blank_question)
-read_lines (gives job, y0, a) e = refl
+read_lines (gives j, y0, a) e = refl
 read_lines (refuses number, y0, a) e = absurd (false≢true e)
+
+lines_in : (r : ReadOutcome) (k : ℕ) {t : List ℕ} → is_read r ≡ true → most (configured r) ≡ k
+    → lines_from (suc k) r.2 (beginning (configured r) blank_work blank_question) ≡ t → lines_for r ≡ t
+lines_in r k e n h = read_lines r e ∙ rw n h
 
 -- an answer's line, then those that follow
 onward : (k : ℕ) (a : List Float) (g : After Turn) {l rest : List ℕ} → is_question_or_notice g.is.answer ≡ true → line_of g ≡ l → lines_from k a (replied a g) ≡ rest
@@ -131,88 +135,6 @@ seventh = replied cells sixth
 abbrev eighth : After Turn
 eighth = replied cells seventh
 
-is_job : is_read (reading job) ≡ true
-unfolding when◌then◌else◌ turns loop abs_of signum_of min_of max_of sqrt_of sized_of single_of lu_decomp_of inside_of divided_of solved_of lin_solve_of gammas alphas error_consts copy_turn copied fill_turn filled load_turn loaded predicted_turn predicted predict_turn predict scale_of scale_turn scaled psi_sum_turn psi_sum psi_turn psied square_of square_turn sum_of_squares rhs_norm matrix_turn matrix_cells diagonal matrix_row matrix factored residual_turn residual solved correction advance_turn advanced converged safety_of weigh_turn weighed newest_turn newest add_next_turn add_next summed_turn summed coeff coeff_turn coeffs cont_turn prepared accepted_ws to_hmax to_hmin aimed newton_start must_factor refactored predicted_all attempt_at unless_stuck fitted fitted_attempt attempt tries main_loop step_accepted error_fails error_ws judged iterated newton_replied jacobian_stored first_turn first_difference differences started first_step stepped newton_turn first_derivative first_jacobian negative limited tolerances_checked checked span_of kept begin_ws ask_first begin_run begin_of pivot_outside limits_damaged steps_damaged counters_damaged damaged_above0 damaged go_checked go_within go_on_of of_bits of_int add sub mul div neg eq lt le ne kappa to_bits digit spelled places_within word_from spaced line hexes head_bits words_of accepted_of form_of head_read form_read first_step_of job_of read_of sum_turn row_sum right_turn right_of replied lines_from printed
-is_job = refl
-
-limit : most (configured (reading job)) ≡ 700006
-unfolding when◌then◌else◌ turns loop abs_of signum_of min_of max_of sqrt_of sized_of single_of lu_decomp_of inside_of divided_of solved_of lin_solve_of gammas alphas error_consts copy_turn copied fill_turn filled load_turn loaded predicted_turn predicted predict_turn predict scale_of scale_turn scaled psi_sum_turn psi_sum psi_turn psied square_of square_turn sum_of_squares rhs_norm matrix_turn matrix_cells diagonal matrix_row matrix factored residual_turn residual solved correction advance_turn advanced converged safety_of weigh_turn weighed newest_turn newest add_next_turn add_next summed_turn summed coeff coeff_turn coeffs cont_turn prepared accepted_ws to_hmax to_hmin aimed newton_start must_factor refactored predicted_all attempt_at unless_stuck fitted fitted_attempt attempt tries main_loop step_accepted error_fails error_ws judged iterated newton_replied jacobian_stored first_turn first_difference differences started first_step stepped newton_turn first_derivative first_jacobian negative limited tolerances_checked checked span_of kept begin_ws ask_first begin_run begin_of pivot_outside limits_damaged steps_damaged counters_damaged damaged_above0 damaged go_checked go_within go_on_of of_bits of_int add sub mul div neg eq lt le ne kappa to_bits digit spelled places_within word_from spaced line hexes head_bits words_of accepted_of form_of head_read form_read first_step_of job_of read_of sum_turn row_sum right_turn right_of replied lines_from printed
-limit = refl
-
-asks_first : is_question_or_notice first.is.answer ≡ true
-unfolding when◌then◌else◌ turns loop abs_of signum_of min_of max_of sqrt_of sized_of single_of lu_decomp_of inside_of divided_of solved_of lin_solve_of gammas alphas error_consts copy_turn copied fill_turn filled load_turn loaded predicted_turn predicted predict_turn predict scale_of scale_turn scaled psi_sum_turn psi_sum psi_turn psied square_of square_turn sum_of_squares rhs_norm matrix_turn matrix_cells diagonal matrix_row matrix factored residual_turn residual solved correction advance_turn advanced converged safety_of weigh_turn weighed newest_turn newest add_next_turn add_next summed_turn summed coeff coeff_turn coeffs cont_turn prepared accepted_ws to_hmax to_hmin aimed newton_start must_factor refactored predicted_all attempt_at unless_stuck fitted fitted_attempt attempt tries main_loop step_accepted error_fails error_ws judged iterated newton_replied jacobian_stored first_turn first_difference differences started first_step stepped newton_turn first_derivative first_jacobian negative limited tolerances_checked checked span_of kept begin_ws ask_first begin_run begin_of pivot_outside limits_damaged steps_damaged counters_damaged damaged_above0 damaged go_checked go_within go_on_of of_bits of_int add sub mul div neg eq lt le ne kappa to_bits digit spelled places_within word_from spaced line hexes head_bits words_of accepted_of form_of head_read form_read first_step_of job_of read_of sum_turn row_sum right_turn right_of replied lines_from printed
-asks_first = refl
-
-line_first : line_of first ≡ bytes ""
-unfolding when◌then◌else◌ turns loop abs_of signum_of min_of max_of sqrt_of sized_of single_of lu_decomp_of inside_of divided_of solved_of lin_solve_of gammas alphas error_consts copy_turn copied fill_turn filled load_turn loaded predicted_turn predicted predict_turn predict scale_of scale_turn scaled psi_sum_turn psi_sum psi_turn psied square_of square_turn sum_of_squares rhs_norm matrix_turn matrix_cells diagonal matrix_row matrix factored residual_turn residual solved correction advance_turn advanced converged safety_of weigh_turn weighed newest_turn newest add_next_turn add_next summed_turn summed coeff coeff_turn coeffs cont_turn prepared accepted_ws to_hmax to_hmin aimed newton_start must_factor refactored predicted_all attempt_at unless_stuck fitted fitted_attempt attempt tries main_loop step_accepted error_fails error_ws judged iterated newton_replied jacobian_stored first_turn first_difference differences started first_step stepped newton_turn first_derivative first_jacobian negative limited tolerances_checked checked span_of kept begin_ws ask_first begin_run begin_of pivot_outside limits_damaged steps_damaged counters_damaged damaged_above0 damaged go_checked go_within go_on_of of_bits of_int add sub mul div neg eq lt le ne kappa to_bits digit spelled places_within word_from spaced line hexes head_bits words_of accepted_of form_of head_read form_read first_step_of job_of read_of sum_turn row_sum right_turn right_of replied lines_from printed
-line_first = refl
-
-asks_second : is_question_or_notice second.is.answer ≡ true
-unfolding when◌then◌else◌ turns loop abs_of signum_of min_of max_of sqrt_of sized_of single_of lu_decomp_of inside_of divided_of solved_of lin_solve_of gammas alphas error_consts copy_turn copied fill_turn filled load_turn loaded predicted_turn predicted predict_turn predict scale_of scale_turn scaled psi_sum_turn psi_sum psi_turn psied square_of square_turn sum_of_squares rhs_norm matrix_turn matrix_cells diagonal matrix_row matrix factored residual_turn residual solved correction advance_turn advanced converged safety_of weigh_turn weighed newest_turn newest add_next_turn add_next summed_turn summed coeff coeff_turn coeffs cont_turn prepared accepted_ws to_hmax to_hmin aimed newton_start must_factor refactored predicted_all attempt_at unless_stuck fitted fitted_attempt attempt tries main_loop step_accepted error_fails error_ws judged iterated newton_replied jacobian_stored first_turn first_difference differences started first_step stepped newton_turn first_derivative first_jacobian negative limited tolerances_checked checked span_of kept begin_ws ask_first begin_run begin_of pivot_outside limits_damaged steps_damaged counters_damaged damaged_above0 damaged go_checked go_within go_on_of of_bits of_int add sub mul div neg eq lt le ne kappa to_bits digit spelled places_within word_from spaced line hexes head_bits words_of accepted_of form_of head_read form_read first_step_of job_of read_of sum_turn row_sum right_turn right_of replied lines_from printed
-asks_second = refl
-
-line_second : line_of second ≡ bytes ""
-unfolding when◌then◌else◌ turns loop abs_of signum_of min_of max_of sqrt_of sized_of single_of lu_decomp_of inside_of divided_of solved_of lin_solve_of gammas alphas error_consts copy_turn copied fill_turn filled load_turn loaded predicted_turn predicted predict_turn predict scale_of scale_turn scaled psi_sum_turn psi_sum psi_turn psied square_of square_turn sum_of_squares rhs_norm matrix_turn matrix_cells diagonal matrix_row matrix factored residual_turn residual solved correction advance_turn advanced converged safety_of weigh_turn weighed newest_turn newest add_next_turn add_next summed_turn summed coeff coeff_turn coeffs cont_turn prepared accepted_ws to_hmax to_hmin aimed newton_start must_factor refactored predicted_all attempt_at unless_stuck fitted fitted_attempt attempt tries main_loop step_accepted error_fails error_ws judged iterated newton_replied jacobian_stored first_turn first_difference differences started first_step stepped newton_turn first_derivative first_jacobian negative limited tolerances_checked checked span_of kept begin_ws ask_first begin_run begin_of pivot_outside limits_damaged steps_damaged counters_damaged damaged_above0 damaged go_checked go_within go_on_of of_bits of_int add sub mul div neg eq lt le ne kappa to_bits digit spelled places_within word_from spaced line hexes head_bits words_of accepted_of form_of head_read form_read first_step_of job_of read_of sum_turn row_sum right_turn right_of replied lines_from printed
-line_second = refl
-
-asks_third : is_question_or_notice third.is.answer ≡ true
-unfolding when◌then◌else◌ turns loop abs_of signum_of min_of max_of sqrt_of sized_of single_of lu_decomp_of inside_of divided_of solved_of lin_solve_of gammas alphas error_consts copy_turn copied fill_turn filled load_turn loaded predicted_turn predicted predict_turn predict scale_of scale_turn scaled psi_sum_turn psi_sum psi_turn psied square_of square_turn sum_of_squares rhs_norm matrix_turn matrix_cells diagonal matrix_row matrix factored residual_turn residual solved correction advance_turn advanced converged safety_of weigh_turn weighed newest_turn newest add_next_turn add_next summed_turn summed coeff coeff_turn coeffs cont_turn prepared accepted_ws to_hmax to_hmin aimed newton_start must_factor refactored predicted_all attempt_at unless_stuck fitted fitted_attempt attempt tries main_loop step_accepted error_fails error_ws judged iterated newton_replied jacobian_stored first_turn first_difference differences started first_step stepped newton_turn first_derivative first_jacobian negative limited tolerances_checked checked span_of kept begin_ws ask_first begin_run begin_of pivot_outside limits_damaged steps_damaged counters_damaged damaged_above0 damaged go_checked go_within go_on_of of_bits of_int add sub mul div neg eq lt le ne kappa to_bits digit spelled places_within word_from spaced line hexes head_bits words_of accepted_of form_of head_read form_read first_step_of job_of read_of sum_turn row_sum right_turn right_of replied lines_from printed
-asks_third = refl
-
-line_third : line_of third ≡ bytes "I 0000000000000000 3FF0000000000000\n"
-unfolding when◌then◌else◌ turns loop abs_of signum_of min_of max_of sqrt_of sized_of single_of lu_decomp_of inside_of divided_of solved_of lin_solve_of gammas alphas error_consts copy_turn copied fill_turn filled load_turn loaded predicted_turn predicted predict_turn predict scale_of scale_turn scaled psi_sum_turn psi_sum psi_turn psied square_of square_turn sum_of_squares rhs_norm matrix_turn matrix_cells diagonal matrix_row matrix factored residual_turn residual solved correction advance_turn advanced converged safety_of weigh_turn weighed newest_turn newest add_next_turn add_next summed_turn summed coeff coeff_turn coeffs cont_turn prepared accepted_ws to_hmax to_hmin aimed newton_start must_factor refactored predicted_all attempt_at unless_stuck fitted fitted_attempt attempt tries main_loop step_accepted error_fails error_ws judged iterated newton_replied jacobian_stored first_turn first_difference differences started first_step stepped newton_turn first_derivative first_jacobian negative limited tolerances_checked checked span_of kept begin_ws ask_first begin_run begin_of pivot_outside limits_damaged steps_damaged counters_damaged damaged_above0 damaged go_checked go_within go_on_of of_bits of_int add sub mul div neg eq lt le ne kappa to_bits digit spelled places_within word_from spaced line hexes head_bits words_of accepted_of form_of head_read form_read first_step_of job_of read_of sum_turn row_sum right_turn right_of replied lines_from printed
-line_third = refl
-
-asks_fourth : is_question_or_notice fourth.is.answer ≡ true
-unfolding when◌then◌else◌ turns loop abs_of signum_of min_of max_of sqrt_of sized_of single_of lu_decomp_of inside_of divided_of solved_of lin_solve_of gammas alphas error_consts copy_turn copied fill_turn filled load_turn loaded predicted_turn predicted predict_turn predict scale_of scale_turn scaled psi_sum_turn psi_sum psi_turn psied square_of square_turn sum_of_squares rhs_norm matrix_turn matrix_cells diagonal matrix_row matrix factored residual_turn residual solved correction advance_turn advanced converged safety_of weigh_turn weighed newest_turn newest add_next_turn add_next summed_turn summed coeff coeff_turn coeffs cont_turn prepared accepted_ws to_hmax to_hmin aimed newton_start must_factor refactored predicted_all attempt_at unless_stuck fitted fitted_attempt attempt tries main_loop step_accepted error_fails error_ws judged iterated newton_replied jacobian_stored first_turn first_difference differences started first_step stepped newton_turn first_derivative first_jacobian negative limited tolerances_checked checked span_of kept begin_ws ask_first begin_run begin_of pivot_outside limits_damaged steps_damaged counters_damaged damaged_above0 damaged go_checked go_within go_on_of of_bits of_int add sub mul div neg eq lt le ne kappa to_bits digit spelled places_within word_from spaced line hexes head_bits words_of accepted_of form_of head_read form_read first_step_of job_of read_of sum_turn row_sum right_turn right_of replied lines_from printed
-asks_fourth = refl
-
-line_fourth : line_of fourth ≡ bytes ""
-unfolding when◌then◌else◌ turns loop abs_of signum_of min_of max_of sqrt_of sized_of single_of lu_decomp_of inside_of divided_of solved_of lin_solve_of gammas alphas error_consts copy_turn copied fill_turn filled load_turn loaded predicted_turn predicted predict_turn predict scale_of scale_turn scaled psi_sum_turn psi_sum psi_turn psied square_of square_turn sum_of_squares rhs_norm matrix_turn matrix_cells diagonal matrix_row matrix factored residual_turn residual solved correction advance_turn advanced converged safety_of weigh_turn weighed newest_turn newest add_next_turn add_next summed_turn summed coeff coeff_turn coeffs cont_turn prepared accepted_ws to_hmax to_hmin aimed newton_start must_factor refactored predicted_all attempt_at unless_stuck fitted fitted_attempt attempt tries main_loop step_accepted error_fails error_ws judged iterated newton_replied jacobian_stored first_turn first_difference differences started first_step stepped newton_turn first_derivative first_jacobian negative limited tolerances_checked checked span_of kept begin_ws ask_first begin_run begin_of pivot_outside limits_damaged steps_damaged counters_damaged damaged_above0 damaged go_checked go_within go_on_of of_bits of_int add sub mul div neg eq lt le ne kappa to_bits digit spelled places_within word_from spaced line hexes head_bits words_of accepted_of form_of head_read form_read first_step_of job_of read_of sum_turn row_sum right_turn right_of replied lines_from printed
-line_fourth = refl
-
-asks_fifth : is_question_or_notice fifth.is.answer ≡ true
-unfolding when◌then◌else◌ turns loop abs_of signum_of min_of max_of sqrt_of sized_of single_of lu_decomp_of inside_of divided_of solved_of lin_solve_of gammas alphas error_consts copy_turn copied fill_turn filled load_turn loaded predicted_turn predicted predict_turn predict scale_of scale_turn scaled psi_sum_turn psi_sum psi_turn psied square_of square_turn sum_of_squares rhs_norm matrix_turn matrix_cells diagonal matrix_row matrix factored residual_turn residual solved correction advance_turn advanced converged safety_of weigh_turn weighed newest_turn newest add_next_turn add_next summed_turn summed coeff coeff_turn coeffs cont_turn prepared accepted_ws to_hmax to_hmin aimed newton_start must_factor refactored predicted_all attempt_at unless_stuck fitted fitted_attempt attempt tries main_loop step_accepted error_fails error_ws judged iterated newton_replied jacobian_stored first_turn first_difference differences started first_step stepped newton_turn first_derivative first_jacobian negative limited tolerances_checked checked span_of kept begin_ws ask_first begin_run begin_of pivot_outside limits_damaged steps_damaged counters_damaged damaged_above0 damaged go_checked go_within go_on_of of_bits of_int add sub mul div neg eq lt le ne kappa to_bits digit spelled places_within word_from spaced line hexes head_bits words_of accepted_of form_of head_read form_read first_step_of job_of read_of sum_turn row_sum right_turn right_of replied lines_from printed
-asks_fifth = refl
-
-line_fifth : line_of fifth ≡ bytes "S 3FE0000000000000 3FF0000000000000\n"
-unfolding when◌then◌else◌ turns loop abs_of signum_of min_of max_of sqrt_of sized_of single_of lu_decomp_of inside_of divided_of solved_of lin_solve_of gammas alphas error_consts copy_turn copied fill_turn filled load_turn loaded predicted_turn predicted predict_turn predict scale_of scale_turn scaled psi_sum_turn psi_sum psi_turn psied square_of square_turn sum_of_squares rhs_norm matrix_turn matrix_cells diagonal matrix_row matrix factored residual_turn residual solved correction advance_turn advanced converged safety_of weigh_turn weighed newest_turn newest add_next_turn add_next summed_turn summed coeff coeff_turn coeffs cont_turn prepared accepted_ws to_hmax to_hmin aimed newton_start must_factor refactored predicted_all attempt_at unless_stuck fitted fitted_attempt attempt tries main_loop step_accepted error_fails error_ws judged iterated newton_replied jacobian_stored first_turn first_difference differences started first_step stepped newton_turn first_derivative first_jacobian negative limited tolerances_checked checked span_of kept begin_ws ask_first begin_run begin_of pivot_outside limits_damaged steps_damaged counters_damaged damaged_above0 damaged go_checked go_within go_on_of of_bits of_int add sub mul div neg eq lt le ne kappa to_bits digit spelled places_within word_from spaced line hexes head_bits words_of accepted_of form_of head_read form_read first_step_of job_of read_of sum_turn row_sum right_turn right_of replied lines_from printed
-line_fifth = refl
-
-asks_sixth : is_question_or_notice sixth.is.answer ≡ true
-unfolding when◌then◌else◌ turns loop abs_of signum_of min_of max_of sqrt_of sized_of single_of lu_decomp_of inside_of divided_of solved_of lin_solve_of gammas alphas error_consts copy_turn copied fill_turn filled load_turn loaded predicted_turn predicted predict_turn predict scale_of scale_turn scaled psi_sum_turn psi_sum psi_turn psied square_of square_turn sum_of_squares rhs_norm matrix_turn matrix_cells diagonal matrix_row matrix factored residual_turn residual solved correction advance_turn advanced converged safety_of weigh_turn weighed newest_turn newest add_next_turn add_next summed_turn summed coeff coeff_turn coeffs cont_turn prepared accepted_ws to_hmax to_hmin aimed newton_start must_factor refactored predicted_all attempt_at unless_stuck fitted fitted_attempt attempt tries main_loop step_accepted error_fails error_ws judged iterated newton_replied jacobian_stored first_turn first_difference differences started first_step stepped newton_turn first_derivative first_jacobian negative limited tolerances_checked checked span_of kept begin_ws ask_first begin_run begin_of pivot_outside limits_damaged steps_damaged counters_damaged damaged_above0 damaged go_checked go_within go_on_of of_bits of_int add sub mul div neg eq lt le ne kappa to_bits digit spelled places_within word_from spaced line hexes head_bits words_of accepted_of form_of head_read form_read first_step_of job_of read_of sum_turn row_sum right_turn right_of replied lines_from printed
-asks_sixth = refl
-
-line_sixth : line_of sixth ≡ bytes ""
-unfolding when◌then◌else◌ turns loop abs_of signum_of min_of max_of sqrt_of sized_of single_of lu_decomp_of inside_of divided_of solved_of lin_solve_of gammas alphas error_consts copy_turn copied fill_turn filled load_turn loaded predicted_turn predicted predict_turn predict scale_of scale_turn scaled psi_sum_turn psi_sum psi_turn psied square_of square_turn sum_of_squares rhs_norm matrix_turn matrix_cells diagonal matrix_row matrix factored residual_turn residual solved correction advance_turn advanced converged safety_of weigh_turn weighed newest_turn newest add_next_turn add_next summed_turn summed coeff coeff_turn coeffs cont_turn prepared accepted_ws to_hmax to_hmin aimed newton_start must_factor refactored predicted_all attempt_at unless_stuck fitted fitted_attempt attempt tries main_loop step_accepted error_fails error_ws judged iterated newton_replied jacobian_stored first_turn first_difference differences started first_step stepped newton_turn first_derivative first_jacobian negative limited tolerances_checked checked span_of kept begin_ws ask_first begin_run begin_of pivot_outside limits_damaged steps_damaged counters_damaged damaged_above0 damaged go_checked go_within go_on_of of_bits of_int add sub mul div neg eq lt le ne kappa to_bits digit spelled places_within word_from spaced line hexes head_bits words_of accepted_of form_of head_read form_read first_step_of job_of read_of sum_turn row_sum right_turn right_of replied lines_from printed
-line_sixth = refl
-
-asks_seventh : is_question_or_notice seventh.is.answer ≡ true
-unfolding when◌then◌else◌ turns loop abs_of signum_of min_of max_of sqrt_of sized_of single_of lu_decomp_of inside_of divided_of solved_of lin_solve_of gammas alphas error_consts copy_turn copied fill_turn filled load_turn loaded predicted_turn predicted predict_turn predict scale_of scale_turn scaled psi_sum_turn psi_sum psi_turn psied square_of square_turn sum_of_squares rhs_norm matrix_turn matrix_cells diagonal matrix_row matrix factored residual_turn residual solved correction advance_turn advanced converged safety_of weigh_turn weighed newest_turn newest add_next_turn add_next summed_turn summed coeff coeff_turn coeffs cont_turn prepared accepted_ws to_hmax to_hmin aimed newton_start must_factor refactored predicted_all attempt_at unless_stuck fitted fitted_attempt attempt tries main_loop step_accepted error_fails error_ws judged iterated newton_replied jacobian_stored first_turn first_difference differences started first_step stepped newton_turn first_derivative first_jacobian negative limited tolerances_checked checked span_of kept begin_ws ask_first begin_run begin_of pivot_outside limits_damaged steps_damaged counters_damaged damaged_above0 damaged go_checked go_within go_on_of of_bits of_int add sub mul div neg eq lt le ne kappa to_bits digit spelled places_within word_from spaced line hexes head_bits words_of accepted_of form_of head_read form_read first_step_of job_of read_of sum_turn row_sum right_turn right_of replied lines_from printed
-asks_seventh = refl
-
-line_seventh : line_of seventh ≡ bytes "S 3FF0000000000000 3FF0000000000000\n"
-unfolding when◌then◌else◌ turns loop abs_of signum_of min_of max_of sqrt_of sized_of single_of lu_decomp_of inside_of divided_of solved_of lin_solve_of gammas alphas error_consts copy_turn copied fill_turn filled load_turn loaded predicted_turn predicted predict_turn predict scale_of scale_turn scaled psi_sum_turn psi_sum psi_turn psied square_of square_turn sum_of_squares rhs_norm matrix_turn matrix_cells diagonal matrix_row matrix factored residual_turn residual solved correction advance_turn advanced converged safety_of weigh_turn weighed newest_turn newest add_next_turn add_next summed_turn summed coeff coeff_turn coeffs cont_turn prepared accepted_ws to_hmax to_hmin aimed newton_start must_factor refactored predicted_all attempt_at unless_stuck fitted fitted_attempt attempt tries main_loop step_accepted error_fails error_ws judged iterated newton_replied jacobian_stored first_turn first_difference differences started first_step stepped newton_turn first_derivative first_jacobian negative limited tolerances_checked checked span_of kept begin_ws ask_first begin_run begin_of pivot_outside limits_damaged steps_damaged counters_damaged damaged_above0 damaged go_checked go_within go_on_of of_bits of_int add sub mul div neg eq lt le ne kappa to_bits digit spelled places_within word_from spaced line hexes head_bits words_of accepted_of form_of head_read form_read first_step_of job_of read_of sum_turn row_sum right_turn right_of replied lines_from printed
-line_seventh = refl
-
-asks_eighth : is_question_or_notice eighth.is.answer ≡ false
-unfolding when◌then◌else◌ turns loop abs_of signum_of min_of max_of sqrt_of sized_of single_of lu_decomp_of inside_of divided_of solved_of lin_solve_of gammas alphas error_consts copy_turn copied fill_turn filled load_turn loaded predicted_turn predicted predict_turn predict scale_of scale_turn scaled psi_sum_turn psi_sum psi_turn psied square_of square_turn sum_of_squares rhs_norm matrix_turn matrix_cells diagonal matrix_row matrix factored residual_turn residual solved correction advance_turn advanced converged safety_of weigh_turn weighed newest_turn newest add_next_turn add_next summed_turn summed coeff coeff_turn coeffs cont_turn prepared accepted_ws to_hmax to_hmin aimed newton_start must_factor refactored predicted_all attempt_at unless_stuck fitted fitted_attempt attempt tries main_loop step_accepted error_fails error_ws judged iterated newton_replied jacobian_stored first_turn first_difference differences started first_step stepped newton_turn first_derivative first_jacobian negative limited tolerances_checked checked span_of kept begin_ws ask_first begin_run begin_of pivot_outside limits_damaged steps_damaged counters_damaged damaged_above0 damaged go_checked go_within go_on_of of_bits of_int add sub mul div neg eq lt le ne kappa to_bits digit spelled places_within word_from spaced line hexes head_bits words_of accepted_of form_of head_read form_read first_step_of job_of read_of sum_turn row_sum right_turn right_of replied lines_from printed
-asks_eighth = refl
-
-line_eighth : line_of eighth ≡ bytes "E 0 3FE0000000000000 2 2 0 3 1 1 0\n"
-unfolding when◌then◌else◌ turns loop abs_of signum_of min_of max_of sqrt_of sized_of single_of lu_decomp_of inside_of divided_of solved_of lin_solve_of gammas alphas error_consts copy_turn copied fill_turn filled load_turn loaded predicted_turn predicted predict_turn predict scale_of scale_turn scaled psi_sum_turn psi_sum psi_turn psied square_of square_turn sum_of_squares rhs_norm matrix_turn matrix_cells diagonal matrix_row matrix factored residual_turn residual solved correction advance_turn advanced converged safety_of weigh_turn weighed newest_turn newest add_next_turn add_next summed_turn summed coeff coeff_turn coeffs cont_turn prepared accepted_ws to_hmax to_hmin aimed newton_start must_factor refactored predicted_all attempt_at unless_stuck fitted fitted_attempt attempt tries main_loop step_accepted error_fails error_ws judged iterated newton_replied jacobian_stored first_turn first_difference differences started first_step stepped newton_turn first_derivative first_jacobian negative limited tolerances_checked checked span_of kept begin_ws ask_first begin_run begin_of pivot_outside limits_damaged steps_damaged counters_damaged damaged_above0 damaged go_checked go_within go_on_of of_bits of_int add sub mul div neg eq lt le ne kappa to_bits digit spelled places_within word_from spaced line hexes head_bits words_of accepted_of form_of head_read form_read first_step_of job_of read_of sum_turn row_sum right_turn right_of replied lines_from printed
-line_eighth = refl
-
-whole_run : lines_from 700007 cells first ≡
-    bytes "I 0000000000000000 3FF0000000000000\nS 3FE0000000000000 3FF0000000000000\nS 3FF0000000000000 3FF0000000000000\nE 0 3FE0000000000000 2 2 0 3 1 1 0\n"
-whole_run =
-    onward 700006 cells first asks_first line_first (onward 700005 cells second asks_second line_second (onward 700004 cells third asks_third line_third (onward 700003 cells fourth asks_fourth line_fourth (onward 700002 cells fifth asks_fifth line_fifth (onward 700001 cells sixth asks_sixth line_sixth (onward 700000 cells seventh asks_seventh line_seventh (last 699999 cells eighth asks_eighth line_eighth)))))))
-
-whole_job : printed job ≡
-    bytes "I 0000000000000000 3FF0000000000000\nS 3FE0000000000000 3FF0000000000000\nS 3FF0000000000000 3FF0000000000000\nE 0 3FE0000000000000 2 2 0 3 1 1 0\n"
-unfolding printed
-whole_job = read_lines (reading job) is_job ∙ rw limit whole_run
-
 pub record Computed : Type 0 where
   pub whole :
       printed job ≡
@@ -224,3 +146,66 @@ pub record Computed : Type 0 where
 pub computed : Computed
 unfolding when◌then◌else◌ turns loop abs_of signum_of min_of max_of sqrt_of sized_of single_of lu_decomp_of inside_of divided_of solved_of lin_solve_of gammas alphas error_consts copy_turn copied fill_turn filled load_turn loaded predicted_turn predicted predict_turn predict scale_of scale_turn scaled psi_sum_turn psi_sum psi_turn psied square_of square_turn sum_of_squares rhs_norm matrix_turn matrix_cells diagonal matrix_row matrix factored residual_turn residual solved correction advance_turn advanced converged safety_of weigh_turn weighed newest_turn newest add_next_turn add_next summed_turn summed coeff coeff_turn coeffs cont_turn prepared accepted_ws to_hmax to_hmin aimed newton_start must_factor refactored predicted_all attempt_at unless_stuck fitted fitted_attempt attempt tries main_loop step_accepted error_fails error_ws judged iterated newton_replied jacobian_stored first_turn first_difference differences started first_step stepped newton_turn first_derivative first_jacobian negative limited tolerances_checked checked span_of kept begin_ws ask_first begin_run begin_of pivot_outside limits_damaged steps_damaged counters_damaged damaged_above0 damaged go_checked go_within go_on_of of_bits of_int add sub mul div neg eq lt le ne kappa to_bits digit spelled places_within word_from spaced line hexes head_bits words_of accepted_of form_of head_read form_read first_step_of job_of read_of sum_turn row_sum right_turn right_of replied lines_from printed
 computed = record { whole = whole_job; one_step = refl }
+  where
+    is_job : is_read (reading job) ≡ true
+    is_job = refl
+
+    limit : most (configured (reading job)) ≡ 700006
+    limit = refl
+
+    asks_first : is_question_or_notice first.is.answer ≡ true
+    asks_first = refl
+
+    line_first : line_of first ≡ bytes ""
+    line_first = refl
+
+    asks_second : is_question_or_notice second.is.answer ≡ true
+    asks_second = refl
+
+    line_second : line_of second ≡ bytes ""
+    line_second = refl
+
+    asks_third : is_question_or_notice third.is.answer ≡ true
+    asks_third = refl
+
+    line_third : line_of third ≡ bytes "I 0000000000000000 3FF0000000000000\n"
+    line_third = refl
+
+    asks_fourth : is_question_or_notice fourth.is.answer ≡ true
+    asks_fourth = refl
+
+    line_fourth : line_of fourth ≡ bytes ""
+    line_fourth = refl
+
+    asks_fifth : is_question_or_notice fifth.is.answer ≡ true
+    asks_fifth = refl
+
+    line_fifth : line_of fifth ≡ bytes "S 3FE0000000000000 3FF0000000000000\n"
+    line_fifth = refl
+
+    asks_sixth : is_question_or_notice sixth.is.answer ≡ true
+    asks_sixth = refl
+
+    line_sixth : line_of sixth ≡ bytes ""
+    line_sixth = refl
+
+    asks_seventh : is_question_or_notice seventh.is.answer ≡ true
+    asks_seventh = refl
+
+    line_seventh : line_of seventh ≡ bytes "S 3FF0000000000000 3FF0000000000000\n"
+    line_seventh = refl
+
+    asks_eighth : is_question_or_notice eighth.is.answer ≡ false
+    asks_eighth = refl
+
+    line_eighth : line_of eighth ≡ bytes "E 0 3FE0000000000000 2 2 0 3 1 1 0\n"
+    line_eighth = refl
+
+    whole_run : lines_from 700007 cells first ≡
+        bytes "I 0000000000000000 3FF0000000000000\nS 3FE0000000000000 3FF0000000000000\nS 3FF0000000000000 3FF0000000000000\nE 0 3FE0000000000000 2 2 0 3 1 1 0\n"
+    whole_run =
+        onward 700006 cells first asks_first line_first (onward 700005 cells second asks_second line_second (onward 700004 cells third asks_third line_third (onward 700003 cells fourth asks_fourth line_fourth (onward 700002 cells fifth asks_fifth line_fifth (onward 700001 cells sixth asks_sixth line_sixth (onward 700000 cells seventh asks_seventh line_seventh (last 699999 cells eighth asks_eighth line_eighth)))))))
+
+    whole_job : printed job ≡
+        bytes "I 0000000000000000 3FF0000000000000\nS 3FE0000000000000 3FF0000000000000\nS 3FF0000000000000 3FF0000000000000\nE 0 3FE0000000000000 2 2 0 3 1 1 0\n"
+    whole_job = lines_in (reading job) 700006 is_job limit whole_run

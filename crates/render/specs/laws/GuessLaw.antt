@@ -42,40 +42,40 @@ one_more n = omega arith
 nearby : (b g f : ℕ) → b ≤ g → g ≤ b + 1 → b ≤ f → f ≤ b + 1 → (g ≤ f + 1) × (f ≤ g + 1)
 nearby b g f p q r s = (omega arith, omega arith)
 
-nearby_past : (b g f : ℕ) → b ≤ g → g ≤ b + 1 → b < f → f ≤ b + 2 → (g ≤ f) × (f ≤ g + 2)
+pub nearby_past : (b g f : ℕ) → b ≤ g → g ≤ b + 1 → b < f → f ≤ b + 2 → (g ≤ f) × (f ≤ g + 2)
 nearby_past b g f p q r s = (omega arith, omega arith)
 
 -- the whole number below the exact product
 module _ (u : ℕ) (most : u ≤ 80000 * 2 ^ 1074) where
-  base : ℕ
+  pub base : ℕ
   base = u * 48000 / 2 ^ 1074
 
-  base_under : base * 2 ^ 1074 ≤ u * 48000
+  pub base_under : base * 2 ^ 1074 ≤ u * 48000
   unfolding base
   base_under = div-mul-le_self (u * 48000) (2 ^ 1074)
 
-  base_over : u * 48000 < (base + 1) * 2 ^ 1074
+  pub base_over : u * 48000 < (base + 1) * 2 ^ 1074
   unfolding base
   base_over = (div-lt_iff_lt-mul (pow_pos 1074)).0 (one_more (u * 48000 / 2 ^ 1074))
 
-  base_most : base ≤ 3840000000
+  pub base_most : base ≤ 3840000000
   base_most = le_of_mul-le-mul_right {k = 2 ^ 1074} (le_trans base_under (le_trans (mul-le-mul_right 48000 most) (lit≤ tt))) (pow_pos 1074)
 
   -- the product, rounded
-  product : ℕ
+  pub product : ℕ
   product = grid_of (u * 48000) (2 ^ 1074)
 
-  product_under : base * 2 ^ 1074 ≤ product
+  pub product_under : base * 2 ^ 1074 ≤ product
   unfolding product
   product_under =
       let w = 2 ^ 1074 in
       le_trans (le_of_eq (sym (whole_grid base (le_trans base_most (lit≤ tt)))))
       (grid_mono (base * w) w (u * 48000) w (pow_pos 1074) (pow_pos 1074) (mul-le-mul_right w base_under))
 
-  base_small : base + 1 ≤ 2 ^ 53
+  pub base_small : base + 1 ≤ 2 ^ 53
   base_small = le_trans (let e : base + 1 ≤ 3840000001 = omega (arith, base_most) in e) (lit≤ tt)
 
-  product_over : product ≤ (base + 1) * 2 ^ 1074
+  pub product_over : product ≤ (base + 1) * 2 ^ 1074
   unfolding product
   product_over =
       let w = 2 ^ 1074 in
@@ -102,13 +102,13 @@ cut_is (fin false m e) c h =
     rw same (min-eq_left h)
 
 module _ (x : Float) (g : Good x) (c : SignClear x) where
-  at_most : units_of x ≤ 80000 * 2 ^ 1074
+  pub at_most : units_of x ≤ 80000 * 2 ^ 1074
   at_most =
       let o = clear_over x c in
       let none : 80000 * 2 ^ 1074 + under x ≡ 80000 * 2 ^ 1074 = ap (λ (n : ℕ). 80000 * 2 ^ 1074 + n) o.1 ∙ add-zero (80000 * 2 ^ 1074) in
       le_trans (le_of_eq (sym o.0)) (le_trans (good_most x g) (le_of_eq none))
 
-  product_counts : Counts (x ⊗ rate) false (product (units_of x) at_most)
+  pub product_counts : Counts (x ⊗ rate) false (product (units_of x) at_most)
   unfolding product
   product_counts =
       let w = 2 ^ 1074 in
@@ -189,12 +189,12 @@ module _ (x : Float) (g : Good x) (c : SignClear x) where
 
   -- ---- the first past x is one of the next two
 
-  past_under : base (units_of x) at_most < first_past x
+  pub past_under : base (units_of x) at_most < first_past x
   past_under =
       let b = base (units_of x) at_most in
       before_past x b g (past_is b (omega (arith, below_32)) ∙ le-ltb (units_of x) (ticks b) base_ticks)
 
-  past_over : first_past x ≤ base (units_of x) at_most + 2
+  pub past_over : first_past x ≤ base (units_of x) at_most + 2
   past_over =
       let b = base (units_of x) at_most in
       let less : units_of x < ticks (b + 2) = lt_of_le_of_lt next_ticks (ticks_strict (b + 1) (b + 2) (omega arith) (omega (arith, below_32))) in
@@ -226,7 +226,7 @@ module _ (m : ℕ) (e : ℤ) (g : Good (fin true m e)) where
       let x = fin true m e in
       from_first clock x 0 g (short_ticks x g.fitting 0 n.0 n.1 ∙ le-ltb (ticks 0 + under x) 0 zero-le)
 
-  set_past : first_past (fin true m e) ≤ 1
+  pub set_past : first_past (fin true m e) ≤ 1
   set_past =
       let n = time_near 1 (lit< tt) in
       let x = fin true m e in
@@ -261,10 +261,10 @@ past_found x g =
     (λ b. omega (arith, from n b)))
 
 -- below 0 every k lies past x
-zero_is : +0 ≡ fin false 0 (pos 0)
+pub zero_is : +0 ≡ fin false 0 (pos 0)
 zero_is = unfold Ieee.of_bits in refl
 
-zero_finite : Finite (fin false 0 (pos 0))
+pub zero_finite : Finite (fin false 0 (pos 0))
 unfolding Ieee.fits
 zero_finite = tt
 

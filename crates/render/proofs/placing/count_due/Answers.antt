@@ -1,7 +1,5 @@
 -- `placing::count_due` is the lesser of the room and what is left before the k past the end. Assumes nothing.
 use native.Mathlib.Omega.{arith}
-use native.Mathlib.Nat.{min-eq_left, min-eq_right}
-use borrow.Author.Rules.{rules}
 use Rattle.render.specs.Sampled.{due}
 use Rattle.render.proofs.placing.count_due.Goals as goal
 

@@ -1,5 +1,4 @@
 -- `placing::due_from`: the place's own next k, and on a first call the first one from the notice's start on. Assumes nothing.
-use Rattle.std.proofs.Common.{rules}
 use Rattle.loops.specs.Choice.{when◌then◌else◌}
 use Rattle.render.proofs.placing.due_from.Goals as goal
 

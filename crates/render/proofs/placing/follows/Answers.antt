@@ -1,5 +1,4 @@
 -- `placing::follows`: before a first call every notice does, afterwards one that goes on. Assumes nothing.
-use borrow.Author.Rules.{rules}
 use borrow.Author.Tests.{not-false}
 use Rattle.render.proofs.placing.follows.Goals as goal
 

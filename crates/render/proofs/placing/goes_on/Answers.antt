@@ -1,6 +1,5 @@
 -- `placing::goes_on` makes the comparisons of its definition, one after another. Assumes nothing.
 use borrow.Author.Tests.{not-true, not-false}
-use lib.Ieee
 use Rattle.loops.specs.Choice.{when◌then◌else◌}
 use Rattle.render.proofs.placing.goes_on.Goals as goal
 

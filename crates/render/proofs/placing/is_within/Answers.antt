@@ -1,7 +1,5 @@
 -- `placing::is_within` makes both comparisons; the lower bound is the upper one with its sign turned. Assumes nothing.
 use mathlib.Core.Path.{◌≡◌, refl}
-use borrow.Author.Tests.{not-true, not-false}
-use lib.Ieee
 use lib.Ieee.{neg, of_bits}
 use Rattle.render.specs.Times.{80000·0, -80000·0}
 use Rattle.render.proofs.placing.is_within.Goals as goal

@@ -1,43 +1,36 @@
-use borrow.Author.Rules.{rules}
-use Rattle.render.proofs.placing.place.Reads as reads
-use Rattle.render.proofs.placing.place.Lts as lts
-use Rattle.render.proofs.placing.follows.Reads as follows-reads
-use Rattle.render.proofs.placing.proper.Reads as proper-reads
-use Rattle.render.proofs.placing.write.Reads as write-reads
+-- `placing::place` makes the checks of its definition, one after another; past them it writes. Assumes nothing.
+use Rattle.std.proofs.Common.{sym, ap, ◌∙◌, lt-ltb, le-ltb, eq-eqb, ne_eqb}
+use Rattle.std.specs.Prelude.{not}
+use Rattle.loops.specs.laws.ChoiceLaws.{when_true, when_false}
+use Rattle.render.specs.Sampled.{sampled}
 use Rattle.render.proofs.placing.place.Goals as goal
 
--- src/placing.rt:138:9
 pub returns-then-n-gt-MAX_N : goal.returns-then-n-gt-MAX_N
-returns-then-n-gt-MAX_N c = ?
+unfolding sampled
+returns-then-n-gt-MAX_N c = sym (when_true _ _ (lt-ltb _ _ c.if-n-gt-MAX_N.true))
 
--- src/placing.rt:144:9
 pub returns-then-cont-n : goal.returns-then-cont-n
-returns-then-cont-n c = ?
+unfolding sampled
+returns-then-cont-n c = sym (when_false _ _ (le-ltb _ _ c.if-n-gt-MAX_N.false) ∙ when_true _ _ (ap not (ne_eqb _ _ c.if-cont-n.true)))
 
--- src/placing.rt:149:9
-pub follows-requires : goal.follows-requires
-follows-requires c = search rules
-
--- src/placing.rt:150:9
 pub returns-then-not-follows : goal.returns-then-not-follows
-returns-then-not-follows c = ?
+unfolding sampled
+returns-then-not-follows c =
+    sym (when_false _ _ (le-ltb _ _ c.if-n-gt-MAX_N.false) ∙ when_false _ _ (ap not (eq-eqb _ _ c.if-cont-n.false))
+    ∙ when_true _ _ (ap not (sym c.follows.ensures ∙ c.if-not-follows.true)))
 
--- src/placing.rt:155:9
-pub proper-requires : goal.proper-requires
-proper-requires c = search rules
-
--- src/placing.rt:156:9
 pub returns-then-not-proper : goal.returns-then-not-proper
-returns-then-not-proper c = ?
+unfolding sampled
+returns-then-not-proper c =
+    sym (when_false _ _ (le-ltb _ _ c.if-n-gt-MAX_N.false) ∙ when_false _ _ (ap not (eq-eqb _ _ c.if-cont-n.false))
+    ∙ when_false _ _ (ap not (sym c.follows.ensures ∙ c.if-not-follows.false)) ∙ when_true _ _ (ap not (sym c.proper.ensures ∙ c.if-not-proper.true)))
 
--- src/placing.rt:161:5
 pub write-requires : goal.write-requires
-write-requires c = ?
+write-requires c = (c.if-n-gt-MAX_N.false, (c.if-cont-n.false, sym c.proper.ensures ∙ c.if-not-proper.false))
 
--- src/placing.rt:128:1
-pub shape_of-out : goal.shape_of-out
-shape_of-out c = search rules
-
--- src/placing.rt:128:1
 pub returns : goal.returns
-returns c = ?
+unfolding sampled
+returns c =
+    c.write.ensures
+    ∙ sym (when_false _ _ (le-ltb _ _ c.if-n-gt-MAX_N.false) ∙ when_false _ _ (ap not (eq-eqb _ _ c.if-cont-n.false))
+    ∙ when_false _ _ (ap not (sym c.follows.ensures ∙ c.if-not-follows.false)) ∙ when_false _ _ (ap not (sym c.proper.ensures ∙ c.if-not-proper.false)))

@@ -1,8 +1,4 @@
 -- `placing::proper` makes the tests of its definition, one after another. Assumes nothing.
-use borrow.Author.Rules.{rules}
-use borrow.Author.Tests.{not-true, not-false}
-use lib.Ieee
-use Rattle.loops.specs.Arithmetic.{+0}
 use Rattle.render.proofs.placing.proper.Goals as goal
 
 pub returns-then-not-notice : goal.returns-then-not-notice

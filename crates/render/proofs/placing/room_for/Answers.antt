@@ -1,5 +1,4 @@
 -- `placing::room_for` is the quotient, and for no components more than any k. Assumes nothing.
-use borrow.Author.Rules.{rules}
 use borrow.Author.Tests.{eq-eqb, ne_eqb}
 use Rattle.loops.specs.Choice.{when◌then◌else◌}
 use Rattle.render.proofs.placing.room_for.Goals as goal

@@ -1,22 +1,21 @@
 -- `write_rows` lays one sample after another. Assumes nothing.
-use mathlib.Core.Path.{◌≡◌, refl, sym, subst, ◌∙◌, ap}
-use mathlib.Core.Bool.{Bool, true, false}
-use mathlib.Core.List.{List, ◌++◌}
-use Prim.Native.Nat.{ℕ, zero, suc, ◌+◌, ◌-◌, ◌*◌, ◌^◌, ◌≤◌, ◌<◌}
+use mathlib.Core.Path.{◌≡◌, refl, ◌∙◌}
+use mathlib.Core.Bool.{true, false}
+use mathlib.Core.List.{List}
+use Prim.Native.Nat.{ℕ, ◌+◌, ◌-◌, ◌*◌, ◌≤◌, ◌<◌}
 use native.Mathlib.Nat.{mul-le-mul_right, le_trans}
 use native.Mathlib.Omega.{arith}
-use lib.Dec.{T, ltb, eqb}
-use lib.Ieee
-use lib.Ieee.{Float, binary64}
-use lib.ListN.{length, take, drop, length-append, length-take, length-drop}
+use lib.Dec.{ltb, eqb}
+use lib.Ieee.{Float}
+use lib.ListN.{length, take, drop, length-append, length-drop}
 use lib.Seq.{length-take-le}
 use borrow.Author.Tests.{le-ltb, eq-eqb}
 use Rattle.loops.specs.laws.ChoiceLaws.{when_true, when_false}
 use Rattle.loops.specs.laws.Turned.{Turned, turn_none, turn_more, turn_all}
 use Rattle.loops.specs.Part.{over}
-use Rattle.loops.specs.Refusal.{Outcome, gives, refuses}
+use Rattle.loops.specs.Refusal.{Outcome, gives}
 use Rattle.matrix.specs.Size.{max_n}
-use Rattle.interpolation.specs.Interpolate.{Interpolates, says, said_of, interpolation, values_at}
+use Rattle.interpolation.specs.Interpolate.{says, interpolation, values_at}
 use Rattle.render.specs.declared.grid.Notice.{Notice}
 use Rattle.render.specs.Times.{time_of}
 use Rattle.render.specs.Sampled.{rows}

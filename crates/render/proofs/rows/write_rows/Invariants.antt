@@ -1,24 +1,13 @@
-use mathlib.Core.Path.{◌≡◌, refl, sym, subst, ◌∙◌, ap}
-use mathlib.Core.Bool.{Bool, true, false}
-use mathlib.Core.List.{List, ◌++◌}
-use Prim.Native.Nat.{ℕ, zero, suc, ◌+◌, ◌-◌, ◌*◌, ◌^◌, ◌≤◌, ◌<◌}
-use native.Mathlib.Nat.{mul-le-mul_right, le_trans}
-use native.Mathlib.Omega.{arith}
-use lib.Dec.{T, ltb, eqb}
-use lib.Ieee
-use lib.Ieee.{Float, binary64}
-use lib.ListN.{length, take, drop, length-append, length-take, length-drop}
-use lib.Seq.{length-take-le}
-use borrow.Author.Tests.{le-ltb, eq-eqb}
-use Rattle.loops.specs.laws.ChoiceLaws.{when_true, when_false}
-use Rattle.loops.specs.laws.Turned.{Turned, turn_none, turn_more, turn_all}
+use mathlib.Core.Path.{◌≡◌}
+use mathlib.Core.List.{List}
+use Prim.Native.Nat.{ℕ, ◌+◌, ◌-◌, ◌*◌}
+use lib.Ieee.{Float}
+use lib.ListN.{length}
+use Rattle.loops.specs.laws.Turned.{Turned}
 use Rattle.loops.specs.Part.{over}
-use Rattle.loops.specs.Refusal.{Outcome, gives, refuses}
-use Rattle.matrix.specs.Size.{max_n}
-use Rattle.interpolation.specs.Interpolate.{Interpolates, says, said_of, interpolation, values_at}
+use Rattle.interpolation.specs.Interpolate.{values_at}
 use Rattle.render.specs.declared.grid.Notice.{Notice}
 use Rattle.render.specs.Times.{time_of}
-use Rattle.render.specs.Sampled.{rows}
 use Rattle.render.proofs.rows.write_rows.Given as goal
 
 abbrev pub row_turn : Notice → ℕ → List Float → ℕ → ℕ → List Float → List Float

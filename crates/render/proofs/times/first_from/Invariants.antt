@@ -1,12 +1,6 @@
-use mathlib.Core.Path.{◌≡◌, refl, sym, ◌∙◌}
-use mathlib.Core.Bool.{Bool, true, false}
-use Prim.Native.Nat.{ℕ, zero, suc, ◌+◌, ◌-◌, ◌/◌, ◌^◌, ◌≤◌, ◌<◌}
-use native.Mathlib.Omega.{arith}
-use lib.Pow.{pow_pos}
-use lib.Ieee
-use lib.Ieee.{Float}
-use Rattle.loops.specs.laws.ChoiceLaws.{when_true, when_false}
-use Rattle.render.specs.Times.{time_of, short, sought, first_from}
+use mathlib.Core.Path.{◌≡◌}
+use Prim.Native.Nat.{◌+◌, ◌^◌, ◌≤◌}
+use Rattle.render.specs.Times.{short, sought, first_from}
 use Rattle.render.proofs.times.first_from.Given as goal
 
 abbrev pub invariant-loop-left : goal.invariant-loop-left
