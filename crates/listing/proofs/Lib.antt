@@ -1,2 +1,2 @@
--- What is promised of the last line of the output: an edit of what a line says is to be refused for that, so it stands here and not in specs/.
-pub mod LastLine
+-- What is promised of the output and that an edit of a definition is to break: it stands here and not in specs/.
+pub mod promises

@@ -1,0 +1,2 @@
+-- What is promised of the last two lines of the output.
+pub mod LastLine
