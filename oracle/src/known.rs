@@ -1,5 +1,5 @@
 //! Cases whose answers docs/RULES.md, docs/JOB-FORMAT.md, docs/transcript.md, docs/DIFFERENCES.md and, for the inverse root of numbers
-//! below the normal ones, crates/roots/specs/promises/Overflow.antt print; and its hardest roundings. Those of each setting stand at the
+//! below the normal ones, crates/roots/proofs/promises/Overflow.antt print; and its hardest roundings. Those of each setting stand at the
 //! head of its part of the stored sample.
 use crate::GUARDED;
 use crate::config::Config;

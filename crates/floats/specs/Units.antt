@@ -6,7 +6,7 @@ use Rattle.std.specs.Float.{nan, inf, fin, binary64}
 use Rattle.std.specs.Float.Ieee.{fits}
 use Rattle.std.specs.Float.Ieee.Order.{drop, kept}
 use Rattle.roots.specs.Roots.{units_of}
-use Rattle.roots.specs.laws.Units.{SignClear}
+use Rattle.roots.proofs.laws.Units.{SignClear}
 
 -- a finite double
 abbrev pub Finite : Float → Type 0

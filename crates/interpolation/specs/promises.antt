@@ -1,3 +1,3 @@
--- What is promised of the interpolation: it ends on its first coefficient, and nothing else meets its contract.
-pub mod InterpolationLaw
+-- What is promised of the interpolation: nothing else meets its contract. That it ends on its first coefficient stands
+-- in proofs/promises/.
 pub mod Unique

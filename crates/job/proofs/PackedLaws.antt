@@ -13,7 +13,7 @@ use Rattle.loops.specs.Loop.{loop}
 use Rattle.loops.specs.Refusal.{Outcome, gives, refuses}
 use Rattle.loops.specs.laws.ChoiceLaws.{either, when_true, when_false, and_passes, and_first, and_second}
 use Rattle.text.specs.Words.{bytes_of, Below}
-use Rattle.text.specs.laws.WordLaws.{number, length_bytes, number_same, number_of_bytes, bytes_of_number, number_small, below_append, bytes_small}
+use Rattle.text.proofs.laws.WordLaws.{number, length_bytes, number_same, number_of_bytes, bytes_of_number, number_small, below_append, bytes_small}
 use Rattle.job.specs.declared.form.Form.{Form}
 use Rattle.job.specs.Types.{max_n}
 use Rattle.job.specs.Packed.{head_length, head_bits, head_of, field, word_of, words_of, length_for}

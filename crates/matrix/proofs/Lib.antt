@@ -1,4 +1,4 @@
--- Laws of the definitions. Those that are `pub` are for callers too.
+-- Laws of the definitions, those of lengths and pivots in laws/. Those that are `pub` are for callers too.
 mod Magnitude
 pub mod Size
 mod Stages
@@ -6,3 +6,4 @@ mod Writes
 mod Commuting
 mod Rows
 mod Zeros
+pub mod laws

@@ -18,7 +18,7 @@ use Rattle.loops.specs.laws.RowLaws.{inside}
 use Rattle.loops.specs.Arithmetic.{◌⊘◌, +0, one}
 use Rattle.matrix.specs.Lu.{exchanged_of, scale_turn, eliminate_turn, column_turn, stage_of}
 use Rattle.matrix.specs.Rows.{added_of, cell_turn, row_turn, stage_by_rows}
-use Rattle.matrix.specs.laws.LengthLaws.{exchanged_long}
+use Rattle.matrix.proofs.laws.LengthLaws.{exchanged_long}
 use Rattle.matrix.proofs.Writes.{rows_apart}
 use Rattle.matrix.proofs.Commuting.{cells_commute, scale_passes_cell, exchange_passes_cell, exchange_passes_scale}
 

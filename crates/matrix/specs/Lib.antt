@@ -6,5 +6,4 @@ pub mod Lu
 pub mod Linear
 -- ---- the code's own order
 pub mod Rows
-pub mod laws
 pub mod promises

@@ -12,7 +12,7 @@ use lib.Ieee.Bits.{of_bits-to_bits}
 use lib.Ieee.Fits.{up_pos}
 use borrow.Author.Tests.{ne_eqb, lt-ltb, le-ltb}
 use Rattle.roots.specs.Roots.{infinity_bits, units_of, rounded, inverse_root}
-use Rattle.roots.specs.laws.Patterns.{bits_below, units_bits}
+use Rattle.roots.proofs.laws.Patterns.{bits_below, units_bits}
 use Rattle.roots.specs.Scaled.{Scaled, nearest_root}
 use Rattle.loops.specs.laws.FloatLaws.{is_nan_lem}
 

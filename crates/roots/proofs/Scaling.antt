@@ -8,7 +8,7 @@ use lib.Dec.{leb}
 use lib.Pow.{pow_pos, pow-add, pow-lt, pow_mono}
 use borrow.Author.Tests.{leb-true, leb-false, le-leb, lt-leb}
 use Rattle.roots.specs.Roots.{val, infinity_bits, edge, reaches}
-use Rattle.roots.specs.laws.Patterns.{val_small, val_normal, val_step}
+use Rattle.roots.proofs.laws.Patterns.{val_small, val_normal, val_step}
 use Rattle.roots.specs.Scaled.{Scaled, Asked, reaches_root}
 
 -- ---- a pattern's value

@@ -5,5 +5,4 @@ pub mod Numeral
 pub mod Scaled
 pub mod Quick
 pub mod WholeRoot
-pub mod laws
 pub mod promises

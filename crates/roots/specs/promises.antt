@@ -1,4 +1,2 @@
--- What is promised of the two roots: what they mean, where the inverse root is infinite, and that nothing else meets their contracts.
-pub mod Meaning
-pub mod Overflow
+-- What is promised of the two roots' contracts: nothing else meets them. What the roots mean stands in proofs/promises/.
 pub mod Unique

@@ -1,5 +1,6 @@
--- The rules of the solver: what its functions compute, each in the order of operations of the Rust. What holds of them for our own
--- proofs is in laws/; what a buyer reads, of single stages and of whole runs, is in promises/.
+-- The rules of the solver: what its functions compute, each in the order of operations of the Rust. The words in which
+-- more is said of them are in laws/; what holds of them for our own proofs is in proofs/laws/, what a buyer reads, of single stages and of
+-- whole runs, in proofs/promises/.
 
 -- ---- types and words: the code's types, the state 'the same but for', the workspace's places, the tables, and the kinds of answers
 pub mod Types

@@ -1,4 +1,4 @@
--- What holds of the rules, for our own proofs.
+-- The words in which it is said what holds of the rules: what the code asks of its callers, and what the laws and promises are about.
 
 -- ---- what the code asks of its callers
 pub mod Ready

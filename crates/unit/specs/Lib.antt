@@ -1,2 +1,2 @@
--- The unit coefficients: the table, and what is promised of it.
+-- The unit coefficients: the table. What is promised of it stands in proofs/promises/.
 pub mod Unit

@@ -6,7 +6,7 @@ use Rattle.std.proofs.lemmas.Bool.{false≢true}
 use Rattle.std.specs.Float.{nan, inf, fin}
 use Rattle.std.specs.Float.Ieee.{up, down, below, level, lt, eq, le}
 use Rattle.loops.specs.laws.ChoiceLaws.{and_first, and_second}
-use Rattle.roots.specs.laws.Units.{SignClear}
+use Rattle.roots.proofs.laws.Units.{SignClear}
 use Rattle.loops.specs.Arithmetic.{◌⊕◌}
 use Rattle.floats.specs.Units.{Finite, over, under}
 use Rattle.floats.specs.laws.Sums.{lt_signed, clear_over, sum_below}

@@ -9,8 +9,8 @@ use Rattle.std.specs.Float.Ieee.Fits.{up_pos, down_pos}
 use Rattle.std.specs.Float.Ieee.Scale.{round_same}
 use Rattle.loops.specs.Arithmetic.{◌⊗◌, ◌⊘◌}
 use Rattle.roots.specs.Roots.{units_of}
-use Rattle.roots.specs.laws.Patterns.{units_zero}
-use Rattle.roots.specs.laws.Units.{SignClear, units_exact}
+use Rattle.roots.proofs.laws.Patterns.{units_zero}
+use Rattle.roots.proofs.laws.Units.{SignClear, units_exact}
 use Rattle.floats.specs.Units.{Finite, sign_of, grid_of, Counts, Within}
 use Rattle.floats.specs.laws.Rounding.{round_counts}
 

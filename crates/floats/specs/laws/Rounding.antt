@@ -13,8 +13,8 @@ use Rattle.std.specs.Float.Ieee.Nearest.{closest, closest_mono, nearest-ge, div_
 use Rattle.std.specs.Float.Ieee.Order.{drop, kept}
 use Rattle.std.specs.Float.Ieee.Scale.{grid, round_val, round_under, finite}
 use Rattle.roots.specs.Roots.{units_of}
-use Rattle.roots.specs.laws.Patterns.{units_below, units_zero}
-use Rattle.roots.specs.laws.Units.{units_exact}
+use Rattle.roots.proofs.laws.Patterns.{units_below, units_zero}
+use Rattle.roots.proofs.laws.Units.{units_exact}
 use Rattle.floats.specs.Units.{Finite, grid_of, Counts}
 
 -- a finite value that is a / 2 ^ 1074 has a units

@@ -5,7 +5,7 @@ use Rattle.std.proofs.Common.{true≢false}
 use Rattle.std.specs.Float.{nan, inf, fin, binary64}
 use Rattle.std.specs.Float.Ieee.{up, down, round, mul, div}
 use Rattle.loops.specs.Arithmetic.{◌⊗◌, ◌⊘◌}
-use Rattle.roots.specs.laws.Units.{SignClear}
+use Rattle.roots.proofs.laws.Units.{SignClear}
 use Rattle.floats.specs.Units.{Finite, sign_of, grid_of, Counts}
 use Rattle.floats.specs.laws.Rounding.{round_counts}
 

@@ -9,7 +9,7 @@ use Rattle.std.specs.Float.Ieee.Fits.{down_pos, neg-fits}
 use Rattle.std.specs.Float.Ieee.Scale.{round_same}
 use Rattle.loops.specs.Arithmetic.{◌⊕◌}
 use Rattle.roots.specs.Roots.{units_of}
-use Rattle.roots.specs.laws.Units.{SignClear, units_exact}
+use Rattle.roots.proofs.laws.Units.{SignClear, units_exact}
 use Rattle.floats.specs.Units.{Finite, grid_of, Counts, over, under, Apart, Rounded}
 use Rattle.floats.specs.laws.Rounding.{round_counts, grid_mono, grid_fixed, units_bound}
 

@@ -7,7 +7,7 @@ use Prim.Native.Nat.{ℕ, zero, suc, ◌+◌, ◌*◌, ◌^◌, ◌≤◌, ◌<�
 use Rattle.std.proofs.Math.ListN.{length, length-drop, get_or-append}
 use Rattle.std.proofs.Math.Seq.{take-suc}
 use Rattle.text.specs.Words.{bytes_of, Below}
-use Rattle.text.specs.laws.WordLaws.{number, word_number, length_bytes, number_same, number_of_bytes, bytes_of_number, number_small, below_append, below_one, bytes_small}
+use Rattle.text.proofs.laws.WordLaws.{number, word_number, length_bytes, number_same, number_of_bytes, bytes_of_number, number_small, below_append, below_one, bytes_small}
 use Rattle.job.specs.Packed.{head_length, place, word_of, words_of}
 use Rattle.job.specs.Writing.{joined}
 

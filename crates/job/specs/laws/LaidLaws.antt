@@ -4,7 +4,7 @@ use Rattle.std.proofs.Common.{sym, ap, ◌∙◌, append_assoc, append-nil, add-
 use Rattle.text.specs.Page.{Page, puts}
 use Rattle.text.specs.Words.{bytes_of}
 use Rattle.text.specs.laws.PageLaws.{laid, puts_whole, length_laid, puts_joined}
-use Rattle.text.specs.laws.WordLaws.{length_bytes}
+use Rattle.text.proofs.laws.WordLaws.{length_bytes}
 use Rattle.job.specs.declared.form.Form.{Form}
 use Rattle.job.specs.Packed.{place, length_for}
 use Rattle.job.specs.Writing.{head_for, words_in, joined, packed_of}

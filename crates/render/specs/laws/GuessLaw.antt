@@ -16,8 +16,8 @@ use Rattle.loops.specs.Choice.{when◌then◌else◌}
 use Rattle.loops.specs.Arithmetic.{◌⊗◌, +0}
 use Rattle.loops.specs.laws.ChoiceLaws.{either}
 use Rattle.roots.specs.Roots.{units_of}
-use Rattle.roots.specs.laws.Patterns.{units_zero}
-use Rattle.roots.specs.laws.Units.{SignClear, units_exact}
+use Rattle.roots.proofs.laws.Patterns.{units_zero}
+use Rattle.roots.proofs.laws.Units.{SignClear, units_exact}
 use Rattle.floats.specs.Units.{Finite, grid_of, Counts, over, under}
 use Rattle.floats.specs.laws.Rounding.{grid_mono, grid_fixed, grid_same}
 use Rattle.floats.specs.laws.Products.{counts_within, within_clear, counts_units, clear_finite, clear_sign, mul_counts}

@@ -12,7 +12,7 @@ use Rattle.std.specs.Float.Ieee.Fits.{down_pos}
 use Rattle.std.specs.Float.Ieee.Order.{drop, kept}
 use Rattle.loops.specs.Arithmetic.{◌⊕◌, ◌⊗◌, +0}
 use Rattle.roots.specs.Roots.{units_of}
-use Rattle.roots.specs.laws.Units.{SignClear, units_exact}
+use Rattle.roots.proofs.laws.Units.{SignClear, units_exact}
 use Rattle.floats.specs.Units.{Finite, grid_of, Counts, Apart, Rounded, over, under}
 use Rattle.floats.specs.laws.Rounding.{grid_mono, grid_same}
 use Rattle.floats.specs.laws.Products.{counts_within, within_clear, counts_units, mul_counts}

@@ -3,7 +3,7 @@ use Rattle.std.specs.Prelude.{◌≡◌, ℕ, ◌+◌, ◌*◌, ◌/◌, ◌^◌
 use Rattle.std.proofs.Common.{sym, ◌∙◌, subst, inl, inr, add-zero, le_trans, le_of_eq, not-le_of_lt, mul-le-mul_right, mul_assoc, mul_right_comm, lt_of_le_of_lt, lt_of_lt_of_le, mul-lt-mul_of_pos_right, div-mul-le_self, arith, lt-ltb, lit≤, lit<, pow_pos}
 use Rattle.std.specs.Float.Ieee.{lt}
 use Rattle.roots.specs.Roots.{units_of}
-use Rattle.roots.specs.laws.Units.{SignClear}
+use Rattle.roots.proofs.laws.Units.{SignClear}
 use Rattle.floats.specs.Units.{over, under}
 use Rattle.floats.specs.laws.Rounding.{grid_mono, grid_exact}
 use Rattle.floats.specs.laws.Products.{clear_finite}

@@ -10,7 +10,7 @@ use Rattle.std.specs.Float.Ieee.{div, lt, le, eq, fits, of_bits}
 use Rattle.loops.specs.laws.ChoiceLaws.{and_second}
 use Rattle.loops.specs.Arithmetic.{◌⊘◌, float}
 use Rattle.roots.specs.Roots.{units_of}
-use Rattle.roots.specs.laws.Units.{SignClear}
+use Rattle.roots.proofs.laws.Units.{SignClear}
 use Rattle.floats.specs.Units.{Finite, grid_of, Counts, over, under}
 use Rattle.floats.specs.laws.Rounding.{round_counts, grid_mono, units_bound, grid_same}
 use Rattle.floats.specs.laws.Products.{clear_finite, div_counts}

@@ -7,7 +7,7 @@ use native.Mathlib.Omega.{arith}
 use lib.Dec.{lit<}
 use lib.Pow.{pow_pos}
 use Rattle.roots.specs.Roots.{infinity_bits, edge}
-use Rattle.roots.specs.laws.RootLaws.{reaches_intro, fails_above, rounded_is}
+use Rattle.roots.proofs.laws.RootLaws.{reaches_intro, fails_above, rounded_is}
 use Rattle.roots.specs.Scaled.{Scaled, Asked, reaches_root, nearest_root}
 use Rattle.roots.proofs.Scaling.{tested_is, edge_over, edge_after, edge_under}
 use Rattle.roots.specs.Quick.{Near, LimitIs}

@@ -10,7 +10,7 @@ use Rattle.loops.specs.laws.Order.{loop_keeps}
 use Rattle.loops.specs.laws.RowLaws.{inside}
 use Rattle.matrix.specs.Lu.{lu_decomp_of}
 use Rattle.matrix.specs.Linear.{lin_solve_of}
-use Rattle.matrix.specs.laws.LengthLaws.{factors_long, solution_long}
+use Rattle.matrix.proofs.laws.LengthLaws.{factors_long, solution_long}
 use Rattle.rules.specs.Types.{Progress, Pace, Tolerance, Scalar, Vector}
 use Rattle.rules.specs.State.{Left}
 use Rattle.rules.specs.Places.{row, y, rhs, d}

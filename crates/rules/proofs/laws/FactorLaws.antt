@@ -9,8 +9,8 @@ use Rattle.loops.specs.Part.{part}
 use Rattle.matrix.specs.Size.{max_n}
 use Rattle.matrix.specs.Lu.{lu_decomp_of}
 use Rattle.matrix.specs.Linear.{Inside}
-use Rattle.matrix.specs.laws.LengthLaws.{factors_long}
-use Rattle.matrix.specs.laws.PivotLaws.{pivots_stay}
+use Rattle.matrix.proofs.laws.LengthLaws.{factors_long}
+use Rattle.matrix.proofs.laws.PivotLaws.{pivots_stay}
 use Rattle.rules.specs.Factor.{matrix, factored}
 use Rattle.rules.specs.GoOn.{pivot_turn, pivot_outside}
 use Rattle.rules.specs.laws.Moved.{Repivoted, as_before, anew}

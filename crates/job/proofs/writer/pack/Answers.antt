@@ -10,7 +10,7 @@ use Rattle.text.specs.declared.page.Place.TheVariants.{At}
 use Rattle.text.specs.Page.{Page, puts}
 use Rattle.text.specs.Words.{bytes_of}
 use Rattle.text.specs.laws.PageLaws.{laid, puts_whole}
-use Rattle.text.specs.laws.WordLaws.{length_bytes}
+use Rattle.text.proofs.laws.WordLaws.{length_bytes}
 use Rattle.job.specs.declared.form.Form.{Form}
 use Rattle.job.specs.Packed.{place, length_for}
 use Rattle.job.specs.Writing.{head_for, joined, packed_of, fits_of}

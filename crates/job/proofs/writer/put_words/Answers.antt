@@ -10,7 +10,7 @@ use Rattle.text.specs.declared.page.Place.TheVariants.{At}
 use Rattle.text.specs.Page.{Page, puts}
 use Rattle.text.specs.Words.{bytes_of}
 use Rattle.text.specs.laws.PageLaws.{laid, puts_whole}
-use Rattle.text.specs.laws.WordLaws.{length_bytes}
+use Rattle.text.proofs.laws.WordLaws.{length_bytes}
 use Rattle.job.specs.Writing.{joined}
 use Rattle.job.specs.laws.LaidLaws.{laid_word, laid_none, length_laid_words}
 use Rattle.job.proofs.writer.put_words.Invariants.{Laid}

@@ -14,7 +14,7 @@ use Rattle.loops.specs.Refusal.{gives, refuses}
 use Rattle.matrix.specs.Size.{sized_of}
 use Rattle.matrix.specs.Linear.{SolveOutcome, inside_of, solved_of, lin_solve_of}
 use Rattle.matrix.proofs.Size.{sized_means}
-use Rattle.matrix.specs.laws.PivotLaws.{each_inside}
+use Rattle.matrix.proofs.laws.PivotLaws.{each_inside}
 use Rattle.matrix.proofs.linear.lin_solve.Goals as goal
 
 module _ (a b : List Float) (ip : List ℕ) where

@@ -5,7 +5,7 @@ use native.Mathlib.Omega.{arith}
 use borrow.Author.Tests.{lt-ltb}
 use Rattle.loops.specs.laws.Turned.{turn_none, turn_more, turn_all}
 use Rattle.matrix.specs.Linear.{inside_turn, inside_of}
-use Rattle.matrix.specs.laws.PivotLaws.{one_outside}
+use Rattle.matrix.proofs.laws.PivotLaws.{one_outside}
 use Rattle.matrix.proofs.linear.pivots_inside.Goals as goal
 
 pub loop-k-init : goal.loop-k-init

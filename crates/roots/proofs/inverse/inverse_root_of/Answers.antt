@@ -4,7 +4,7 @@ use mathlib.Core.Path.{◌≡◌, sym, ap, ◌∙◌, subst}
 use Prim.Native.Nat.{ℕ, ◌≤◌, ◌<◌}
 use lib.Dec.{T}
 use lib.Ieee.{Float, binary64, fits, of_bits}
-use Rattle.roots.specs.laws.RootLaws.{rounded_in_range}
+use Rattle.roots.proofs.laws.RootLaws.{rounded_in_range}
 use Rattle.roots.specs.Scaled.{Scaled, Asked}
 use Rattle.roots.proofs.Number.{pattern_is_number}
 use Rattle.roots.proofs.Doubles.{nan_root, zero_root, negative_root, infinity_root, pattern_above_zero, finite_root}

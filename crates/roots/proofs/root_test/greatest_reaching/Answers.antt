@@ -5,7 +5,7 @@ use mathlib.Core.Bool.{true, false}
 use Prim.Native.Nat.{ℕ, ◌+◌, ◌<◌}
 use native.Mathlib.Omega.{arith}
 use Rattle.roots.specs.Roots.{infinity_bits}
-use Rattle.roots.specs.laws.RootLaws.{rounded_is, zero_reaches, fails_past_infinity}
+use Rattle.roots.proofs.laws.RootLaws.{rounded_is, zero_reaches, fails_past_infinity}
 use Rattle.roots.specs.Scaled.{reaches_root}
 use Rattle.roots.proofs.root_test.greatest_reaching.Invariants.{Bracketed}
 use Rattle.roots.proofs.root_test.greatest_reaching.Goals as goal

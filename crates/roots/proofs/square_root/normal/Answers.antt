@@ -1,7 +1,7 @@
 -- `roots::square_root::normal` meets its contract.
 -- Assumes nothing.
 use mathlib.Core.Path.{sym, ◌∙◌}
-use Rattle.roots.specs.laws.SqrtLaws.{sqrt_normal}
+use Rattle.roots.proofs.laws.SqrtLaws.{sqrt_normal}
 use Rattle.roots.proofs.square_root.normal.Goals as goal
 
 pub returns : goal.returns

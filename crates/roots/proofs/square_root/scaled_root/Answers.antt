@@ -6,7 +6,7 @@ use Prim.Native.Nat.{ℕ, ◌+◌, ◌*◌, ◌%◌, ◌^◌, ◌≤◌, ◌<◌
 use native.Mathlib.Omega.{arith}
 use Rattle.roots.specs.WholeRoot.{NearestWhole}
 use Rattle.roots.proofs.Number.{pattern_is_number}
-use Rattle.roots.specs.laws.ScaledRoot.{root_range, scaled_range, scaled_root_is}
+use Rattle.roots.proofs.laws.ScaledRoot.{root_range, scaled_range, scaled_root_is}
 use Rattle.roots.proofs.square_root.scaled_root.Goals as goal
 
 -- the range of what `whole_root` is asked, and of what it gives

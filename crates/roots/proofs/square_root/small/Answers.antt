@@ -7,7 +7,7 @@ use native.Mathlib.Omega.{arith}
 use lib.Ieee.{Float, binary64, of_bits}
 use Rattle.roots.specs.Roots.{sqrt_of}
 use Rattle.roots.specs.WholeRoot.{scaled_root}
-use Rattle.roots.specs.laws.SqrtLaws.{sqrt_small, own_root, zero_own}
+use Rattle.roots.proofs.laws.SqrtLaws.{sqrt_small, own_root, zero_own}
 use Rattle.roots.proofs.square_root.small.Goals as goal
 
 moved_up : (x r : Float) (b j : ℕ) → x ≡ of_bits binary64 b → 0 < b → b < 2 ^ 52 → b * 2 ^ j < 2 ^ 53 → j ≤ 52

@@ -9,7 +9,7 @@ use lib.Ieee.{Float, binary64, fits, to_bits, of_bits}
 use lib.Ieee.Bits.{of_bits-to_bits}
 use Rattle.roots.specs.Roots.{infinity_bits, sqrt_of}
 use Rattle.loops.specs.laws.FloatLaws.{is_nan_lem, is_number}
-use Rattle.roots.specs.laws.SqrtLaws.{sqrt_of_rest, own_root, nan_own, infinity_own, negative_zero_own}
+use Rattle.roots.proofs.laws.SqrtLaws.{sqrt_of_rest, own_root, nan_own, infinity_own, negative_zero_own}
 use Rattle.roots.proofs.square_root.sqrt.Goals as goal
 
 is_pattern : (x : Float) → fits binary64 x ≡ true → x ≡ of_bits binary64 (to_bits binary64 x)

@@ -1,7 +1,7 @@
 -- `text::word::put_word` meets its contract: the three ways of the code are the three of `puts`. Assumes nothing.
 use mathlib.Core.Path.{sym, ◌∙◌}
 use borrow.Author.Tests.{leb-true}
-use Rattle.text.specs.laws.WordLaws.{length_bytes}
+use Rattle.text.proofs.laws.WordLaws.{length_bytes}
 use Rattle.text.proofs.Putting.{puts_in_room, puts_refused, puts_on_full}
 use Rattle.text.proofs.word.put_word.Goals as goal
 

@@ -6,8 +6,8 @@ use Rattle.std.proofs.Math.Nat.{zero-div}
 use Rattle.std.specs.Float.{nan, inf, fin, binary64}
 use Rattle.std.specs.Float.Ieee.{fits, to_bits, of_bits}
 use Rattle.roots.specs.Roots.{val, infinity_bits, rounded, sqrt_of}
-use Rattle.roots.specs.laws.Patterns.{val_small, val_normal, bits_below}
-use Rattle.roots.specs.laws.RootLaws.{sqrt_of_pattern}
+use Rattle.roots.proofs.laws.Patterns.{val_small, val_normal, bits_below}
+use Rattle.roots.proofs.laws.RootLaws.{sqrt_of_pattern}
 use Rattle.roots.specs.WholeRoot.{scaled_root}
 
 -- ---- above 0

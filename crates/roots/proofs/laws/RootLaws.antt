@@ -9,7 +9,7 @@ use Rattle.std.specs.Float.Ieee.{of_bits}
 use borrow.Author.Tests.{le-leb, lt-leb}
 use Rattle.loops.specs.laws.ChoiceLaws.{either, and_fails, and_passes}
 use Rattle.roots.specs.Roots.{val, infinity_bits, edge, greatest, reaches, rounded, sqrt_of, inverse_root}
-use Rattle.roots.specs.laws.Patterns.{middle_below, middle_above, edge_mono, edge_zero, pattern_positive}
+use Rattle.roots.proofs.laws.Patterns.{middle_below, middle_above, edge_mono, edge_zero, pattern_positive}
 
 -- ---- the search, for any test that passes at all numbers below one at which it passes
 

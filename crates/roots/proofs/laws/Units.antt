@@ -9,7 +9,7 @@ use Rattle.std.specs.Float.Ieee.{up, down, lt, fits, of_bits, to_bits}
 use Rattle.std.specs.Float.Ieee.Bits.{of_bits-to_bits, of_bits-fits}
 use Rattle.std.specs.Float.Ieee.Fits.{down_pos, and_l, and_r}
 use Rattle.roots.specs.Roots.{units_of, val, infinity_bits}
-use Rattle.roots.specs.laws.Patterns.{val_only, units_below, bits_below, pattern_finite, pattern_positive}
+use Rattle.roots.proofs.laws.Patterns.{val_only, units_below, bits_below, pattern_finite, pattern_positive}
 
 -- a finite double with its sign clear: +0, or a value above 0
 abbrev pub SignClear : Float → Type 0

@@ -7,10 +7,10 @@ use Rattle.std.specs.Float.{nan, inf, fin, binary64}
 use Rattle.std.specs.Float.Ieee.{of_bits}
 use Rattle.loops.specs.Choice.{when◌then◌else◌}
 use Rattle.roots.specs.Roots.{units_of, val, infinity_bits, inverse_root}
-use Rattle.roots.specs.laws.Patterns.{val_mono, val_only}
-use Rattle.roots.specs.laws.PatternRoots.{inverse_bits, inverse_is, inverse_in_range, inverse_overflows, inverse_overflowed}
-use Rattle.roots.specs.laws.Units.{SignClear, UpToInfinity, Positive, positive_pattern, infinity_is}
-use Rattle.roots.specs.promises.Meaning.{inverse_nearest}
+use Rattle.roots.proofs.laws.Patterns.{val_mono, val_only}
+use Rattle.roots.proofs.laws.PatternRoots.{inverse_bits, inverse_is, inverse_in_range, inverse_overflows, inverse_overflowed}
+use Rattle.roots.proofs.laws.Units.{SignClear, UpToInfinity, Positive, positive_pattern, infinity_is}
+use Rattle.roots.proofs.promises.Meaning.{inverse_nearest}
 
 -- the middle above the largest finite double, 2 ^ 1024 - 2 ^ 970, in half units: that between it and +infinity as `units_of` counts it
 abbrev pub last_middle : ℕ

@@ -7,7 +7,7 @@ use Rattle.std.specs.Prelude.{◌≡◌, refl, ◌⊎◌, ℕ, zero, suc, ◌+�
 use Rattle.std.proofs.Common.{sym, ap, ◌∙◌, inl, inr, ⊎_elim, mul_assoc, mul-one, one-mul, mul_left_comm, mul-add, mod-lt, div-add-mod', lt_of_not-le, not-le_of_lt, lt_of_lt_of_le, le_trans, le-mul_of_pos_right, mul-lt-mul_of_pos_right, pow-suc, lt_irrefl, arith, pow-add, pow_pos, pow_mono}
 use Rattle.std.proofs.Math.Nat.{mul-mul-mul_comm, pow-zero, mul-mod_left, eq_of_mul-eq-mul_right, lt_of_mul-lt-mul_left, pow-succ', two-pow-succ, dvd-mul_right, eq-one_of_dvd-one}
 use Rattle.roots.specs.Roots.{val, infinity_bits, edge}
-use Rattle.roots.specs.laws.Patterns.{val_small, val_normal, val_below, edge_next, edge_next_small}
+use Rattle.roots.proofs.laws.Patterns.{val_small, val_normal, val_below, edge_next, edge_next_small}
 
 -- ---- the two numbers
 

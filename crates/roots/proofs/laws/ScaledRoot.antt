@@ -7,8 +7,8 @@ use Rattle.std.proofs.Math.Nat.{pow-zero, mul-mul-mul_comm}
 use Rattle.std.specs.Float.{binary64}
 use Rattle.std.specs.Float.Ieee.{of_bits}
 use Rattle.roots.specs.Roots.{val, infinity_bits, edge, rounded}
-use Rattle.roots.specs.laws.Patterns.{val_le, val_normal, edge_next, edge_here}
-use Rattle.roots.specs.laws.RootLaws.{reaches_intro, fails_above, rounded_is}
+use Rattle.roots.proofs.laws.Patterns.{val_le, val_normal, edge_next, edge_here}
+use Rattle.roots.proofs.laws.RootLaws.{reaches_intro, fails_above, rounded_is}
 use Rattle.roots.specs.WholeRoot.{NearestWhole, scaled_root}
 
 -- ---- the range of whole roots

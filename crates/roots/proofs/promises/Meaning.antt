@@ -6,9 +6,9 @@ use Prim.Native.Nat.{ℕ, zero, suc, ◌+◌, ◌*◌, ◌^◌, ◌<◌, zero-le
 use Rattle.std.specs.Float.{nan, inf, fin}
 use Rattle.std.specs.Float.Ieee.{lt}
 use Rattle.roots.specs.Roots.{units_of, val, sqrt_of, inverse_root}
-use Rattle.roots.specs.laws.Patterns.{val_mono}
-use Rattle.roots.specs.laws.PatternRoots.{sqrt_bits, sqrt_is, sqrt_below, sqrt_nearer_than_above, sqrt_nearer_than_below, sqrt_above_zero, inverse_bits, inverse_is, inverse_in_range, inverse_nearer_than_above, inverse_nearer_than_below, inverse_above_zero}
-use Rattle.roots.specs.laws.Units.{SignClear, UpToInfinity, Positive, Negative, negative_is, positive_pattern, clear_pattern, pattern_clear, pattern_above, pattern_in_range, range_pattern, range_only, units_only}
+use Rattle.roots.proofs.laws.Patterns.{val_mono}
+use Rattle.roots.proofs.laws.PatternRoots.{sqrt_bits, sqrt_is, sqrt_below, sqrt_nearer_than_above, sqrt_nearer_than_below, sqrt_above_zero, inverse_bits, inverse_is, inverse_in_range, inverse_nearer_than_above, inverse_nearer_than_below, inverse_above_zero}
+use Rattle.roots.proofs.laws.Units.{SignClear, UpToInfinity, Positive, Negative, negative_is, positive_pattern, clear_pattern, pattern_clear, pattern_above, pattern_in_range, range_pattern, range_only, units_only}
 
 -- Of R and S the first is strictly the nearer to a root: their middle lies on S's side of it. Root and middle are given by a power of
 -- each, times the same number, so that both are whole.

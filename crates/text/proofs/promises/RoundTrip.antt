@@ -4,7 +4,7 @@ use Rattle.std.proofs.Common.{ap, ◌∙◌, arith, le-leb}
 use Rattle.loops.specs.laws.ChoiceLaws.{when_true}
 use Rattle.text.specs.declared.word.Word.TheVariants.{Is}
 use Rattle.text.specs.Words.{word_from, word_at, bytes_of, Below}
-use Rattle.text.specs.laws.WordLaws.{word_number, length_bytes, number_of_bytes, bytes_of_number}
+use Rattle.text.proofs.laws.WordLaws.{word_number, length_bytes, number_of_bytes, bytes_of_number}
 
 pub word_of_its_bytes : (w : ℕ) → w < 2 ^ 64 → word_at (bytes_of 8 w) 0 ≡ Is w
 unfolding word_at

@@ -8,9 +8,9 @@ use native.Mathlib.Omega.{arith}
 use Rattle.std.specs.Float.{binary64}
 use Rattle.std.specs.Float.Ieee.{of_bits}
 use Rattle.roots.specs.Roots.{val, infinity_bits, edge, rounded, sqrt_of, inverse_root}
-use Rattle.roots.specs.laws.Patterns.{val_mono, val_less, val_below, edge_next_small, edge_infinity}
-use Rattle.roots.specs.laws.RootLaws.{sqrt_of_pattern, inverse_root_of_pattern, reaches_intro, fails_above, reaches_before, rounded_reaches, zero_reaches, reaches_at_or_below, near_above, near_below, rounded_in_range, rounded_at_most}
-use Rattle.roots.specs.laws.NoTie.{no_tie, no_inverse_tie, one_pow}
+use Rattle.roots.proofs.laws.Patterns.{val_mono, val_less, val_below, edge_next_small, edge_infinity}
+use Rattle.roots.proofs.laws.RootLaws.{sqrt_of_pattern, inverse_root_of_pattern, reaches_intro, fails_above, reaches_before, rounded_reaches, zero_reaches, reaches_at_or_below, near_above, near_below, rounded_in_range, rounded_at_most}
+use Rattle.roots.proofs.laws.NoTie.{no_tie, no_inverse_tie, one_pow}
 
 -- a root is above 0 where 1 half unit, the edge of the smallest pattern above 0, is at or below it
 above_zero : (k a c : ℕ) → a ≤ c → 0 < rounded k a c
