@@ -63,7 +63,7 @@ def build():
     if shutil.which("rt") is None:
         raise Wrong("the job program is not built, and the Rattle kit's command rt, which proves and builds it, is not on the PATH")
     log, begun = HOME / "target" / "programs.log", time.time()
-    print("proving the programs and what they stand on (about eight minutes, the first time only) ..", file=sys.stderr, flush=True)
+    print("proving the programs and what they stand on (some minutes, the first time only) ..", file=sys.stderr, flush=True)
     try:
         log.parent.mkdir(exist_ok=True)
         with open(log, "wb") as file:
@@ -82,7 +82,7 @@ def made(step, folder, file):
 
 def steps():
     """The commands that prove and build, one after another, each with the folder that it is given in. `rt run` runs what it built, too: on
-    nothing, to which either program has an answer."""
+    nothing, which either program ends on."""
     for name in BUILT:
         yield ["rt", "run"], HOME / "crates" / name
     for name, path in BUILT.items() if not NATIVE else ():

@@ -154,7 +154,7 @@ def choice(text):
 
 
 def same_alias(text):
-    return re.sub(r"\b(\w+) as \1\b", r"\1", text)
+    return re.sub(r"(?m)^(?:pub )?use .*$", lambda line: re.sub(r"\b(\w+) as \1\b", r"\1", line.group(0)), text)
 
 
 # What port.py does to a line of specs/, for the lines of an edit, which it leaves.

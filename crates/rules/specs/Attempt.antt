@@ -188,7 +188,7 @@ attempt p ws q =
 -- ---- 'main_loop: attempts until one says something
 
 -- k attempts at most. Each that is rejected was counted, so that limit - total + 1 are enough, and the first clause is never met
--- (`main_loop_turn`, laws/MainLoopLaws.antt: the loop is an attempt, and the same again where it was rejected)
+-- (`main_loop_turn`, proofs/laws/MainLoopLaws.antt: the loop is an attempt, and the same again where it was rejected)
 unfoldable pub tries : ℕ → Progress → List Float → List Float → After Turn
 tries zero p ws q = after (end NeedLargerNMax p) ws q
 tries (suc k) p ws q =

@@ -1,5 +1,5 @@
 -- What a caller knows of where a run is, from what was told and given; and when a run has arrived, and when its step is stuck. The
--- words in which promises/EndMeans.antt says what an end means.
+-- words in which proofs/promises/EndMeans.antt says what an end means.
 --
 -- x and y are known by what said them last: the configuration (x0 and y0), a notice, which tells them, or a reply Modified, which
 -- gives them. Questions, ends and refusals say nothing of them: a derivative is asked at other places than where the run is.

@@ -1,6 +1,6 @@
 -- The unit coefficients: `compute_r` at factor 1.0, by which `change_d` multiplies the table of any other factor, as one fixed table for
 -- the orders 1 to 5. The numbers stand here to be read; that they are what the routine yields, order by order, is
--- promises/UnitTable.antt.
+-- proofs/promises/UnitTable.antt.
 use Rattle.std.specs.Prelude.{List, [], ◌∷◌, ℕ, zero, suc, Float, take, drop}
 use Rattle.std.specs.Float.Ieee
 use Rattle.std.specs.Float.{binary64}

@@ -107,7 +107,7 @@ pub zero_plus_zero : (f : Format) {y z : Float} → Zero y → Zero z → Zero (
 zero_plus_zero f (signed s e) (signed t d) =
     rw add_is (sum_of_zeros f s t (0 * up e * down d) (0 * up d * down e) (down e * down d) (simp zero-mul) (simp zero-mul) (mul-pos (down_pos e) (down_pos d)))
 
--- a zero added to any other value of the format leaves it is
+-- a zero added to any other value of the format leaves it as it is
 pub plus_zero : (f : Format) (s : Bool) (m : ℕ) (e : ℤ) {z : Float} → T (fits f (fin s (suc m) e)) → Zero z → Ieee.add f (fin s (suc m) e) z ≡ fin s (suc m) e
 plus_zero f s m e h (signed t d) =
     add_is f s (suc m) e t 0 d
