@@ -87,6 +87,23 @@ def names():
     return {n: snake(n) for n in found if snake(n) != n}
 
 
+# Facts of one crate that were spelled as values.
+FACTS = {"roots": {"placed": "IsPlaced", "settled": "IsSettled"}}
+
+
+def facts(path, text, mark):
+    """The facts of the file's crate as types, outside of comments, where the same word is an English one."""
+    own = FACTS.get(path.split("/")[1])
+    if not own:
+        return text
+    word = re.compile(BOUND + "(" + "|".join(own) + ")" + AFTER)
+    out = []
+    for line in text.split("\n"):
+        head, found, comment = line.partition(mark)
+        out.append(word.sub(lambda m: own[m.group(1)], head) + found + comment)
+    return "\n".join(out)
+
+
 BOUND = r"(?<![^\s(){}\[\].,;@\"`:|λ←])"
 AFTER = r"(?![^\s(){}\[\].,;@\"`:|])"
 
@@ -107,9 +124,9 @@ def main():
     special = {path: replacer({**table, **here}) for path, here in SPECIAL_IN.items()}
     camel = replacer({o: n for o, n in table.items() if "-" not in o})
     for path in ours():
-        rewrite(path, lambda text: choice(same_alias(special.get(path, antt)(text))))
+        rewrite(path, lambda text: facts(path, choice(same_alias(special.get(path, antt)(text))), "-- "))
     for path in glob.glob("crates/*/src/**/*.rt", recursive=True):
-        rewrite(path, lambda text: source(text, antt))
+        rewrite(path, lambda text: facts(path, source(text, antt), "// "))
     for path in glob.glob("crates/*/must-fail/*.edit"):
         rewrite(path, lambda text: edit(text, antt))
     for path in ["README.md"] + glob.glob("docs/*.md"):

@@ -22,12 +22,12 @@ LimitIs k q g p = p * (2 ^ 64) ^ k * 2 ^ (q * k + g) ≡ 2 ^ (1075 * k + 1074) *
 
 -- h, or at most `slack` more, is the middle's, and the neighbouring middles' are at least `reach` away: p lies above or below it, and not
 -- beyond the next
-abbrev pub placed : ℕ → ℕ → ℕ → ℕ → Place → Type 0
-placed h p slack reach Above = (h + slack ≤ p) × (p < h + reach)
-placed h p slack reach Below = (p < h) × (h + slack ≤ p + reach)
-placed h p slack reach Unknown = Unit
+abbrev pub IsPlaced : ℕ → ℕ → ℕ → ℕ → Place → Type 0
+IsPlaced h p slack reach Above = (h + slack ≤ p) × (p < h + reach)
+IsPlaced h p slack reach Below = (p < h) × (h + slack ≤ p + reach)
+IsPlaced h p slack reach Unknown = Unit
 
 -- where the test is sure, it gives the root
-abbrev pub settled : ℕ → ℕ → ℕ → Settled → Type 0
-settled k digits places (At c) = c ≡ nearest_root k digits places
-settled k digits places Unsure = Unit
+abbrev pub IsSettled : ℕ → ℕ → ℕ → Settled → Type 0
+IsSettled k digits places (At c) = c ≡ nearest_root k digits places
+IsSettled k digits places Unsure = Unit

@@ -3,7 +3,7 @@
 // middle above has m + 2 for m, and its power is more by 2 * k / m of it at least; so both neighbouring middles are judged by h and p too.
 ghost use Rattle.std.specs.Prelude.{◌*◌, ◌^◌, ◌≤◌, ◌<◌};
 ghost use Rattle.roots.specs.Scaled.{Asked};
-ghost use Rattle.roots.specs.Quick.{High, Near, LimitIs, placed, settled};
+ghost use Rattle.roots.specs.Quick.{High, Near, LimitIs, IsPlaced, IsSettled};
 
 use crate::units::{Units, units_of};
 
@@ -64,7 +64,7 @@ enum Place {
 // On which side p lies is a coin toss, so gap and room are chosen by value, and the place is told once, at the end: a branch at the beginning
 // would be guessed wrong every other time.
 fn place_of(h: u64, p: u64, slack: u64, reach: u64) -> Place
-    ensures { placed h p slack reach result }
+    ensures { IsPlaced h p slack reach result }
 {
     let gap = if p < h { h - p } else { p - h };
     if reach <= gap {
@@ -86,7 +86,7 @@ pub(crate) enum Settled {
 // The inverse root, where it is b or the pattern below and the upper parts tell so.
 pub(crate) fn settle(k: usize, x: Units, b: u64) -> Settled
     requires { Asked k x.digits x.places }
-    ensures { settled k x.digits x.places result }
+    ensures { IsSettled k x.digits x.places result }
 {
     if b <= HIDDEN {
         return Settled::Unsure;

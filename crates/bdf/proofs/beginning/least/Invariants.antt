@@ -1,3 +1,4 @@
+-- `bdf::beginning::least`: the invariant and the measure of its loop.
 use Rattle.std.specs.Prelude.{◌-◌, false}
 use lib.Ieee.{inf}
 use Rattle.loops.specs.laws.Turned.{Turned}

@@ -4,10 +4,6 @@ use native.Mathlib.Omega.{arith}
 use Rattle.rules.proofs.laws.CheckLaws.{vector_reaches}
 use Rattle.bdf.proofs.checks.entry.Goals as goal
 
--- LOST mul-result : tie.Need-overflow-mul-result
--- LOST mul-result c = omega (arith, vector_reaches c.before.before.args.values.now (c.before.before.args.i + 1) c.enum_told.given.1 c.before.before.requires)
--- LOST
-
 pub bounds-values-i : goal.bounds-values-i
 bounds-values-i c = omega (arith, vector_reaches c.args.values.now (c.args.i + 1) c.in-Vector.is c.requires)
 

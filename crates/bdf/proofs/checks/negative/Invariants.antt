@@ -1,3 +1,4 @@
+-- `bdf::checks::negative`: the invariant and the measure of its loop.
 use Rattle.std.specs.Prelude.{◌≡◌, ◌-◌, ◌≤◌}
 use Rattle.rules.specs.Checks.{negative}
 use Rattle.bdf.proofs.checks.negative.Given as goal

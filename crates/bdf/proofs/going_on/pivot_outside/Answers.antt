@@ -11,16 +11,6 @@ pub loop-i-init : goal.loop-i-init
 loop-i-init c =
     turn_none (omega arith)
 
--- LOST add-loop : tie.Need-overflow-add-loop invariant-loop decreases-loop
--- LOST add-loop c =
--- LOST     omega arith
--- LOST
-
--- LOST mul-if1 : tie.Need-overflow-mul-if1 invariant-loop decreases-loop
--- LOST mul-if1 c =
--- LOST     omega arith
--- LOST
-
 pub bounds-pivot-i : goal.bounds-pivot-i
 bounds-pivot-i c =
     omega arith

@@ -1,3 +1,4 @@
+-- `bdf::going_on::pivot_outside`: the invariant and the measure of its loop.
 use Rattle.std.specs.Prelude.{◌-◌, false}
 use Rattle.loops.specs.laws.Turned.{Turned}
 use Rattle.rules.specs.GoOn.{pivot_turn}

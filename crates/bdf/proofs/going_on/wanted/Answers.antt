@@ -5,10 +5,6 @@ use Rattle.rules.specs.Replies.{wants}
 use Rattle.bdf.proofs.AwaitedLaws.{of_one}
 use Rattle.bdf.proofs.going_on.wanted.Goals as goal
 
--- LOST mul-values : tie.Need-overflow-mul-values
--- LOST mul-values c = omega (arith, mul-le-mul c.before.requires c.before.requires)
--- LOST
-
 pub returns-in-StartNotice : goal.returns-in-StartNotice
 returns-in-StartNotice c =
     let e = c.word.ensures in

@@ -1,3 +1,4 @@
+-- `bdf::judge::sum_up`: the invariant and the measure of its loop.
 use Rattle.std.specs.Prelude.{◌≡◌, ◌+◌, ◌-◌, length}
 use Rattle.loops.specs.laws.Turned.{Turned}
 use Rattle.rules.specs.Judge.{summed_turn}

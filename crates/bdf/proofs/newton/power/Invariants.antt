@@ -1,3 +1,4 @@
+-- `bdf::newton::power`: the invariant and the measure of its loop.
 use Rattle.std.specs.Prelude.{◌-◌}
 use Rattle.loops.specs.laws.Turned.{Turned}
 use Rattle.loops.specs.Arithmetic.{one}

@@ -1,3 +1,4 @@
+-- `bdf::newton::residual`: the invariant and the measure of its loop.
 use Rattle.std.specs.Prelude.{◌≡◌, ◌-◌, length}
 use Rattle.loops.specs.laws.Turned.{Turned}
 use Rattle.rules.specs.Newton.{residual_turn}

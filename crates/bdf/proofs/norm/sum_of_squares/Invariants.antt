@@ -1,3 +1,4 @@
+-- `bdf::norm::sum_of_squares`: the invariant and the measure of its loop.
 use Rattle.std.specs.Prelude.{◌-◌}
 use Rattle.loops.specs.laws.Turned.{Turned}
 use Rattle.rules.specs.Norm.{square_turn}

@@ -1,3 +1,4 @@
+-- `bdf::predict::psi_sum`: the invariant and the measure of its loop.
 use Rattle.std.specs.Prelude.{◌+◌, ◌-◌}
 use Rattle.loops.specs.laws.Turned.{Turned}
 use Rattle.rules.specs.Predict.{psi_sum_turn}

@@ -11,13 +11,6 @@ pub returns-then-factor : goal.returns-then-factor
 unfolding change_d when◌then◌else◌
 returns-then-factor c = rw c.if-factor.true
 
--- LOST mul-load : tie.Need-overflow-mul-load
--- LOST mul-load c =
--- LOST     let args = c.before.before.before.before.before.before.before.before.args in
--- LOST     let below : args.order * args.n + args.n ≤ 6 * args.n = row_within args.n (omega arith) in
--- LOST     omega arith
--- LOST
-
 pub load-requires : goal.load-requires
 load-requires c =
     let args = c.args in

@@ -1,3 +1,4 @@
+-- `bdf::rescale::first_row`: the invariant and the measure of its loop.
 use Rattle.std.specs.Prelude.{◌≡◌, ◌-◌, List, length, set}
 use lib.Ieee.{Float}
 use Rattle.loops.specs.laws.Turned.{Turned}

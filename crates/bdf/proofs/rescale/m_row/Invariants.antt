@@ -1,3 +1,4 @@
+-- `bdf::rescale::m_row`: the invariant and the measure of its loop.
 use Rattle.std.specs.Prelude.{◌-◌}
 use Rattle.loops.specs.laws.Turned.{Turned}
 use Rattle.rules.specs.Rescale.{m_turn}

@@ -1,3 +1,4 @@
+-- `bdf::rescale::new_row`: the invariant and the measure of its loop.
 use Rattle.std.specs.Prelude.{◌≡◌, ◌-◌, length}
 use Rattle.loops.specs.laws.Turned.{Turned}
 use Rattle.rules.specs.Rescale.{new_row_turn}

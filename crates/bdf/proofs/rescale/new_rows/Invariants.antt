@@ -1,3 +1,4 @@
+-- `bdf::rescale::new_rows`: the invariant and the measure of its loop.
 use Rattle.std.specs.Prelude.{◌≡◌, ◌-◌, ◌*◌, length}
 use Rattle.loops.specs.laws.Turned.{Turned}
 use Rattle.matrix.specs.Size.{max_n}

@@ -1,3 +1,4 @@
+-- `bdf::rescale::r_table`: the invariant and the measure of its loop.
 use Rattle.std.specs.Prelude.{◌-◌}
 use Rattle.loops.specs.laws.Turned.{Turned}
 use Rattle.rules.specs.Rescale.{r_row}

@@ -1,3 +1,4 @@
+-- `bdf::run::run`: the invariant and the measure of its loop.
 use Rattle.std.specs.Prelude.{◌≡◌, ◌≤◌, length}
 use Rattle.matrix.specs.Size.{max_n}
 use Rattle.rules.proofs.laws.MainLoopLaws.{attempts_in}

@@ -1,3 +1,4 @@
+-- `interpolation::polynomial::sum_at`: the invariant and the measure of its loop.
 use Prim.Native.Nat.{◌-◌, ◌*◌}
 use Rattle.loops.specs.laws.Turned.{Turned}
 use Rattle.interpolation.specs.Interpolate.{sum_turn}

@@ -1,3 +1,4 @@
+-- `job::packed::words`: the invariant and the measure of its loop.
 use Prim.Native.Nat.{◌-◌, ◌≤◌}
 use Rattle.job.specs.Packed.{words_of}
 use Rattle.job.proofs.Loading.{Loaded}

@@ -1,3 +1,4 @@
+-- `job::writer::put_words`: the invariant and the measure of its loop.
 use mathlib.Core.Path.{◌≡◌}
 use mathlib.Core.List.{List}
 use Prim.Native.Nat.{ℕ, ◌≤◌, ◌-◌}

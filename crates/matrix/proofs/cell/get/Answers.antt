@@ -11,10 +11,6 @@ overflow_mul-result c = omega (arith, inside c.requires.0 c.requires.1)
 pub overflow_add-result : goal.overflow_add-result
 overflow_add-result c = omega (arith, inside c.requires.0 c.requires.1)
 
--- LOST mul-result-2 : tie.Need-overflow-mul-result-2
--- LOST mul-result-2 c = omega (arith, inside c.requires.0 c.requires.1, c.well-formed)
--- LOST
-
 pub bounds-a-r : goal.bounds-a-r
 bounds-a-r c = omega (arith, inside c.requires.0 c.requires.1)
 

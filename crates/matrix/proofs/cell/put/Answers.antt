@@ -11,10 +11,6 @@ overflow_mul-a c = omega (arith, inside c.requires.0 c.requires.1)
 pub overflow_add-a : goal.overflow_add-a
 overflow_add-a c = omega (arith, inside c.requires.0 c.requires.1)
 
--- LOST mul-a-2 : tie.Need-overflow-mul-a-2
--- LOST mul-a-2 c = omega (arith, inside c.requires.0 c.requires.1, c.well-formed)
--- LOST
-
 pub bounds-a-r : goal.bounds-a-r
 bounds-a-r c = omega (arith, inside c.requires.0 c.requires.1)
 

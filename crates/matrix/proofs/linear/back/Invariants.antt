@@ -1,3 +1,4 @@
+-- `matrix::linear::back`: the invariant and the measure of its loop.
 use mathlib.Core.Path.{◌≡◌}
 use Prim.Native.Nat.{◌-◌}
 use lib.ListN.{length}

@@ -1,3 +1,4 @@
+-- `matrix::linear::pivots_inside`: the invariant and the measure of its loop.
 use mathlib.Core.Bool.{true}
 use Prim.Native.Nat.{◌-◌}
 use Rattle.loops.specs.laws.Turned.{Turned}

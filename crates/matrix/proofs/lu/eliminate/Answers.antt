@@ -23,11 +23,6 @@ turned : (n k i j : ℕ) (a b : List Float) {l t x y : Float} → cell n a i k �
 unfolding cell_turn
 turned n k i j a b e₁ e₂ e₃ e₄ e₅ = e₅ ∙ rw (e₄, e₃, e₂, e₁)
 
--- LOST add-j : tie.Need-overflow-add-j invariant-loop decreases-loop
--- LOST add-j c =
--- LOST     omega arith
--- LOST
-
 pub loop-j-init : goal.loop-j-init
 loop-j-init c =
     (omega arith, c.requires.3, turn_none (omega arith), c.requires.6)
@@ -47,11 +42,6 @@ added-y-requires c =
 pub put-requires : goal.put-requires
 put-requires c =
     omega arith
-
--- LOST add-j-2 : tie.Need-overflow-add-j-2 invariant-loop decreases-loop
--- LOST add-j-2 c =
--- LOST     omega arith
--- LOST
 
 pub loop-j-smaller : goal.loop-j-smaller
 loop-j-smaller c =

@@ -1,3 +1,4 @@
+-- `matrix::lu::pivot_row`: the invariant and the measure of its loop.
 use mathlib.Core.Path.{◌≡◌}
 use Prim.Native.Nat.{◌+◌, ◌-◌, ◌<◌}
 use Rattle.loops.specs.Cell.{cell}

@@ -7,11 +7,6 @@ pub loop-end-init : goal.loop-end-init
 loop-end-init c =
     (omega arith, omega arith, λ j h g. absurd (omega arith))
 
--- LOST add-loop : tie.Need-overflow-add-loop invariant-loop decreases-loop
--- LOST add-loop c =
--- LOST     omega arith
--- LOST
-
 pub overflow_sub-last : goal.overflow_sub-last
 overflow_sub-last c =
     omega arith

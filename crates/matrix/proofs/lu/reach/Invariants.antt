@@ -1,3 +1,4 @@
+-- `matrix::lu::reach`: the invariant and the measure of its loop.
 use Prim.Native.Nat.{◌≤◌, ◌<◌}
 use Rattle.matrix.specs.Rows.{Zeros}
 use Rattle.matrix.proofs.lu.reach.Given as goal

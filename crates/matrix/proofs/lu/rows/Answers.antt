@@ -29,11 +29,6 @@ pub reach-end-requires : goal.reach-end-requires
 reach-end-requires c =
     omega arith
 
--- LOST add-i : tie.Need-overflow-add-i invariant-loop decreases-loop
--- LOST add-i c =
--- LOST     omega arith
--- LOST
-
 pub loop-i-init : goal.loop-i-init
 loop-i-init c =
     (omega arith, turn_none (omega arith), c.reach-end.ensures.2)
@@ -57,11 +52,6 @@ eliminate-requires c = let given = c.args in
       c.reach-end.ensures.1,
       zeros_stay given.n given.k at-loop.i given.k _ at-loop.a _ _ (omega arith) (omega arith) at-loop.invariant.2 c.put.ensures,
     )
-
--- LOST add-i-2 : tie.Need-overflow-add-i-2 invariant-loop decreases-loop
--- LOST add-i-2 c =
--- LOST     omega arith
--- LOST
 
 pub loop-i-smaller : goal.loop-i-smaller
 loop-i-smaller c =

@@ -1,3 +1,4 @@
+-- `render::times::first_from`: the invariant and the measure of its loop.
 use mathlib.Core.Path.{◌≡◌}
 use Prim.Native.Nat.{◌+◌, ◌^◌, ◌≤◌}
 use Rattle.render.specs.Times.{short, sought, first_from}

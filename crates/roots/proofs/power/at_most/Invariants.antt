@@ -1,3 +1,4 @@
+-- `roots::power::at_most`: the invariant and the measure of its loop.
 use mathlib.Core.Path.{◌≡◌}
 use Prim.Native.Nat.{◌-◌, ◌≤◌}
 use lib.Dec.{leb}

@@ -1,3 +1,4 @@
+-- `roots::power::at_most_power`: the invariant and the measure of its loop.
 use Prim.Native.Nat.{◌-◌, ◌*◌, ◌^◌, ◌≤◌}
 use Rattle.roots.proofs.power.Rows.{Writes}
 use Rattle.roots.proofs.power.at_most_power.Given as goal

@@ -1,3 +1,4 @@
+-- `roots::power::times`: the invariant and the measure of its loop.
 use Prim.Native.Nat.{◌-◌}
 use Rattle.roots.proofs.power.Multiplied.{Multiplied}
 use Rattle.roots.proofs.power.times.Given as goal

@@ -6,7 +6,7 @@ use native.Mathlib.Nat.{div-mul-le_self}
 use native.Mathlib.Omega.{arith}
 use Rattle.roots.specs.Roots.{infinity_bits}
 use Rattle.roots.specs.Scaled.{Scaled, Asked, nearest_root}
-use Rattle.roots.specs.Quick.{Near, LimitIs, placed}
+use Rattle.roots.specs.Quick.{Near, LimitIs, IsPlaced}
 use Rattle.roots.specs.declared.root_quick.Place.TheVariants.{Above, Below}
 use Rattle.roots.proofs.root_quick.QuickLaws.{some_limit, small_reach}
 use Rattle.roots.proofs.root_quick.QuickRoot.{root_above, root_below}
@@ -28,12 +28,12 @@ module _
     some : h + 3 * k ≤ p + 2 * k * (p / (2 * m + 1 + 2 * k)) → 0 < p
     some close = some_limit p h (3 * k) (2 * k) (p / (2 * m + 1 + 2 * k)) (2 * m + 1) reach (omega arith) (omega (arith, asked.from)) close
 
-    is_above : placed h p (3 * k) (2 * k * (p / (2 * m + 1 + 2 * k))) Above → b ≡ nearest_root k n g
+    is_above : IsPlaced h p (3 * k) (2 * k * (p / (2 * m + 1 + 2 * k))) Above → b ≡ nearest_root k n g
     is_above (over, close) =
         let back : b ≡ b - 1 + 1 = omega arith in
         back ∙ root_above k (b - 1) m q n g p h (p / (2 * m + 1 + 2 * k)) read asked (omega arith) (limit (some (omega arith))) near reach over close
 
-    is_below : placed h p (3 * k) (2 * k * (p / (2 * m + 1 + 2 * k))) Below → 2 ^ 52 < m → b - 1 ≡ nearest_root k n g
+    is_below : IsPlaced h p (3 * k) (2 * k * (p / (2 * m + 1 + 2 * k))) Below → 2 ^ 52 < m → b - 1 ≡ nearest_root k n g
     is_below (under, close) inner =
         root_below k (b - 1) m q n g p h (p / (2 * m + 1 + 2 * k)) read asked (omega arith) (limit (some close)) near reach inner under close
 

@@ -1,3 +1,4 @@
+-- `roots::root_quick::upper`: the invariant and the measure of its loop.
 use Prim.Native.Nat.{◌-◌, ◌*◌, ◌^◌, ◌≤◌}
 use Rattle.roots.specs.Quick.{Near}
 use Rattle.roots.proofs.root_quick.upper.Given as goal

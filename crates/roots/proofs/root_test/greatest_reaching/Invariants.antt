@@ -1,3 +1,4 @@
+-- `roots::root_test::greatest_reaching`: the invariant and the measure of its loop.
 use mathlib.Core.Path.{◌≡◌}
 use mathlib.Core.Bool.{true, false}
 use Prim.Native.Nat.{ℕ, ◌+◌, ◌-◌, ◌^◌, ◌≤◌, ◌<◌}

@@ -1,3 +1,4 @@
+-- `roots::whole_root::search`: the invariant and the measure of its loop.
 use Prim.Native.Nat.{ℕ, ◌+◌, ◌-◌, ◌*◌, ◌^◌, ◌≤◌, ◌<◌}
 use Rattle.roots.proofs.whole_root.search.Given as goal
 

@@ -1,3 +1,4 @@
+-- `text::page::places`: the invariant and the measure of its loop.
 use Prim.Native.Nat.{◌-◌}
 use Rattle.text.proofs.Counting.{Counted}
 use Rattle.text.proofs.page.places.Given as goal

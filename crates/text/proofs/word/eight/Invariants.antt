@@ -1,3 +1,4 @@
+-- `text::word::eight`: the invariant and the measure of its loop.
 use Prim.Native.Nat.{◌<◌, ◌^◌, ◌-◌}
 use Rattle.loops.specs.laws.Turned.{Turned}
 use Rattle.text.specs.Words.{word_turn}
