@@ -19,7 +19,7 @@ class Papers(unittest.TestCase):
     def test_listings(self):
         """Each file that docs/USING.md shows whole."""
         text = (ROOT / "docs" / "USING.md").read_text()
-        names = ("src/run.rt", "src/main.rt", "proofs/run/discharge/Invariants.antt")
+        names = ("src/run.rt", "src/main.rt", "src/decimal.rt", "proofs/decimal/millionths/Answers.antt")
         for path in (ROOT / "crates" / "discharge" / name for name in names):
             source = path.read_text()
             shown = "".join(f"    {line}\n" if line else "\n" for line in source.rstrip("\n").split("\n"))

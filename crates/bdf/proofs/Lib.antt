@@ -1,2 +1,2 @@
-pub mod AwaitedLaws
-pub mod CoreLaws
+pub mod FoldLaws
+pub mod SaidLaws

@@ -1,2 +1,4 @@
 -- What a reader of the contracts below the public ones meets.
-pub mod Core
+pub mod Factoring
+pub mod Order
+pub mod Said

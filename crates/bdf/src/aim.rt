@@ -1,18 +1,16 @@
 // The size of a step: between its bounds, and cut where it would lead past the end.
-ghost use Rattle.std.specs.Prelude.{◌≡◌, ℕ, ◌+◌, ◌*◌, ◌<◌, ◌≤◌, List};
+ghost use Rattle.std.specs.Prelude.{◌≡◌, ◌+◌, ◌*◌, ◌<◌, ◌≤◌};
 ghost use Rattle.rules.specs.laws.Ready.{Room};
 ghost use Rattle.rules.specs.State.{left, changed as changed_of};
-ghost use Rattle.bdf.specs.Core.{whole};
 ghost use Rattle.rules.specs.Attempt.{rescaled_d, to_hmax, to_hmin, aim_at, cut_at_end, aimed};
 
-use crate::carried::Core;
 use crate::places::row;
 use crate::rescale::change_d;
 use crate::tables::alpha;
-use rules::stages::Aimed;
-use rules::types::{Aim, Pace};
+use rules::types::{Aim, Pace, Progress};
 
-fn changed(h: f64) -> Pace
+// The pace after a change of the step size.
+pub(crate) fn changed(h: f64) -> Pace
     ensures { result ≡ changed_of h }
 {
     Pace {
@@ -69,28 +67,27 @@ fn aim_of(direction: f64, order: usize, x: f64, h: f64) -> Aim
     }
 }
 
-fn cut_at_end(ws: &mut [f64], p: Core) -> Aimed
-    requires { Room p.n ws.old × (1 ≤ p.order) × (p.order ≤ 5) }
-    ensures { (pivot : List ℕ) → left result ws.new ≡ cut_at_end (whole p pivot) ws.old }
+fn cut_at_end(ws: &mut [f64], p: &Progress) -> Option<(Pace, Aim)>
+    requires { Room p.now.n ws.old × (1 ≤ p.now.order) × (p.now.order ≤ 5) }
+    ensures { left result ws.new ≡ cut_at_end p.now ws.old }
 {
     let step_to_end = number::abs(p.span.xend - p.x);
     if step_to_end == 0.0 {
-        return Aimed::AtEnd;
+        return None;
     }
     let factor = step_to_end / p.pace.h;
     rescale_d(ws, p.n, p.order, factor);
     let h = p.pace.h * factor;
-    Aimed::At(changed(h), aim_of(p.span.direction, p.order, p.x, h))
+    Some((changed(h), aim_of(p.span.direction, p.order, p.x, h)))
 }
 
-pub(crate) fn aim(ws: &mut [f64], p: Core) -> Aimed
-    requires { Room p.n ws.old × (1 ≤ p.order) × (p.order ≤ 5) }
-    ensures { (pivot : List ℕ) → left result ws.new ≡ aimed (whole p pivot) ws.old }
+pub(crate) fn aim(ws: &mut [f64], p: &Progress) -> Option<(Pace, Aim)>
+    requires { Room p.now.n ws.old × (1 ≤ p.now.order) × (p.now.order ≤ 5) }
+    ensures { left result ws.new ≡ aimed p.now ws.old }
 {
     let a = aim_of(p.span.direction, p.order, p.x, p.pace.h);
     if p.span.direction * (a.x_new - p.span.xend) > 0.0 {
         return cut_at_end(ws, p);
     }
-    let pace = p.pace;
-    Aimed::At(pace, a)
+    Some((p.pace, a))
 }

@@ -1,138 +1,87 @@
 // The checks of a beginning, in their order.
-ghost use Rattle.std.specs.Prelude.{◌≡◌, ◌+◌, ◌≤◌, true};
+ghost use Rattle.std.specs.Prelude.{◌≡◌, ◌≤◌, true};
 ghost use Rattle.matrix.specs.Size.{max_n};
-ghost use Rattle.rules.specs.Checks.{entry as entry_of, reaches as reaches_of, negative as negative_of, zero_step, limited as limited_of, tolerances_checked, checked as checked_of};
+ghost use Rattle.rules.specs.Checks.{reaches as reaches_of, negative as negative_of, zero_step, limited as limited_of, tolerances_checked, checked as checked_of};
 
 use crate::places::{ROWS, row};
+use crate::tolerance::Tolerances;
 use rules::settings::BDF;
-use rules::stages::Check;
-use rules::types::{Kind, Refusal, Setting, Tolerance};
+use rules::types::{Kind, Refusal};
 
-pub(crate) fn entry(t: Tolerance, values: &[f64], i: usize) -> f64
-    requires { reaches_of t values.now (i + 1) ≡ true }
-    ensures { result ≡ entry_of t values.now i }
+fn negative(t: Tolerances, n: usize) -> Result<(), Refusal>
+    requires { (reaches_of t.relative.by t.relative.values.now n ≡ true) × (reaches_of t.absolute.by t.absolute.values.now n ≡ true) }
+    ensures { result ≡ negative_of t.entry.relative.by t.entry.relative.values.now t.entry.absolute.by t.entry.absolute.values.now n 0 }
 {
-    match t {
-        Tolerance::Scalar(x) => x,
-        Tolerance::Vector => values[i],
-    }
-}
-
-pub(crate) fn reaches(t: Tolerance, values: &[f64], n: usize) -> bool
-    ensures { result ≡ reaches_of t values.now n }
-{
-    match t {
-        Tolerance::Scalar(_) => true,
-        Tolerance::Vector => n <= values.len(),
-    }
-}
-
-fn negative(r: Tolerance, rs: &[f64], a: Tolerance, als: &[f64], n: usize) -> Check
-    requires { (reaches_of r rs.now n ≡ true) × (reaches_of a als.now n ≡ true) }
-    ensures { result ≡ negative_of r rs.now a als.now n 0 }
-{
-    let mut i = 0;
-    while i < n {
-        let rv = entry(r, rs, i);
-        if rv < 0.0 {
-            return Check::Refuse(Refusal::NegativeTolerance {
+    for i in 0..n {
+        let relative = t.relative.entry(i);
+        if relative < 0.0 {
+            return Err(Refusal::NegativeTolerance {
                 kind: Kind::Relative,
                 index: i,
-                value: rv,
+                value: relative,
             });
         }
-        let av = entry(a, als, i);
-        if av < 0.0 {
-            return Check::Refuse(Refusal::NegativeTolerance {
+        let absolute = t.absolute.entry(i);
+        if absolute < 0.0 {
+            return Err(Refusal::NegativeTolerance {
                 kind: Kind::Absolute,
                 index: i,
-                value: av,
+                value: absolute,
             });
         }
-        i += 1;
     }
-    Check::Passed
+    Ok(())
 }
 
-fn zero_step(first: Setting, direction: f64) -> Check
+fn zero_step(first: Option<f64>, direction: f64) -> Result<(), Refusal>
     ensures { result ≡ zero_step first direction }
 {
     match first {
-        Setting::Unset => Check::Passed,
-        Setting::Given(h) => {
-            if h == 0.0 {
-                Check::Refuse(Refusal::ZeroFirstStep {
-                    value: h,
-                    direction,
-                })
-            } else {
-                Check::Passed
-            }
-        }
+        Some(value) if value == 0.0 => Err(Refusal::ZeroFirstStep { value, direction }),
+        _ => Ok(()),
     }
 }
 
-fn limited(s: BDF, direction: f64) -> Check
+fn limited(s: BDF, direction: f64) -> Result<(), Refusal>
     ensures { result ≡ limited_of s direction }
 {
     if s.max_steps == 0 {
-        return Check::Refuse(Refusal::NoSteps);
+        return Err(Refusal::NoSteps);
     }
-    if 1000000 < s.max_steps {
-        return Check::Refuse(Refusal::LimitTooLarge);
+    if 1000000 < s.max_steps || 64 < s.newton_maxiter {
+        return Err(Refusal::LimitTooLarge);
     }
-    if 64 < s.newton_maxiter {
-        return Check::Refuse(Refusal::LimitTooLarge);
-    }
-    let first = s.first_step;
-    zero_step(first, direction)
+    zero_step(s.first_step, direction)
 }
 
-fn tolerances_checked(
-    s: BDF,
-    n: usize,
-    direction: f64,
-    r: Tolerance,
-    rs: &[f64],
-    a: Tolerance,
-    als: &[f64],
-) -> Check
-    ensures { result ≡ tolerances_checked s n direction r rs.now a als.now }
+fn tolerances_checked(s: BDF, n: usize, direction: f64, t: Tolerances) -> Result<(), Refusal>
+    ensures { result ≡ tolerances_checked s n direction t.entry.relative.by t.entry.relative.values.now t.entry.absolute.by t.entry.absolute.values.now }
 {
-    if !reaches(r, rs, n) {
-        return Check::Refuse(Refusal::ToleranceShort);
+    if !t.relative.reaches(n) || !t.absolute.reaches(n) {
+        return Err(Refusal::ToleranceShort);
     }
-    if !reaches(a, als, n) {
-        return Check::Refuse(Refusal::ToleranceShort);
-    }
-    let found = negative(r, rs, a, als, n);
-    match found {
-        Check::Refuse(why) => Check::Refuse(why),
-        Check::Passed => limited(s, direction),
-    }
+    negative(t, n)?;
+    limited(s, direction)
 }
 
 pub(crate) fn checked(
     s: BDF,
     n: usize,
     direction: f64,
-    r: Tolerance,
-    rs: &[f64],
-    a: Tolerance,
-    als: &[f64],
+    t: Tolerances,
     room: usize,
     questions: usize,
-) -> Check
+) -> Result<(), Refusal>
     requires { n ≤ max_n }
-    ensures { result ≡ checked_of s n direction r rs.now a als.now room questions }
+    ensures { result ≡ checked_of s n direction t.entry.relative.by t.entry.relative.values.now t.entry.absolute.by t.entry.absolute.values.now room questions }
 {
     let need = row(n, ROWS);
     if room < need {
-        return Check::Refuse(Refusal::WorkspaceShort);
+        return Err(Refusal::WorkspaceShort);
     }
     let asks = 8 * n;
     if questions < asks {
-        return Check::Refuse(Refusal::QuestionShort);
+        return Err(Refusal::QuestionShort);
     }
-    tolerances_checked(s, n, direction, r, rs, a, als)
+    tolerances_checked(s, n, direction, t)
 }

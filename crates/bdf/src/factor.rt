@@ -2,21 +2,18 @@
 ghost use Rattle.std.specs.Prelude.{◌≡◌, ◌<◌, ◌≤◌, length};
 ghost use Rattle.rules.specs.laws.Ready.{Room};
 ghost use Rattle.rules.specs.State.{left};
-ghost use Rattle.bdf.specs.Core.{factors};
+ghost use Rattle.bdf.specs.Factoring.{factors};
 ghost use Rattle.rules.specs.Factor.{matrix_cells, diagonal as diagonal_of, matrix as matrix_of, factored};
 
 use crate::places::{get_lu, jac, put_lu};
-use matrix::Factoring;
 
 fn matrix_cells(ws: &mut [f64], n: usize, c: f64, r: usize)
     requires { Room n ws.old × (r < n) }
     ensures { ws.new ≡ matrix_cells n c r ws.old }
 {
-    let mut j = 0;
-    while j < n {
+    for j in 0..n {
         let x = -c * jac(ws, n, r, j);
         put_lu(ws, n, r, j, x);
-        j += 1;
     }
 }
 
@@ -32,11 +29,9 @@ fn matrix_rows(ws: &mut [f64], n: usize, c: f64)
     requires { Room n ws.old }
     ensures { ws.new ≡ matrix_of n c ws.old }
 {
-    let mut r = 0;
-    while r < n {
+    for r in 0..n {
         matrix_cells(ws, n, c, r);
         diagonal(ws, n, r);
-        r += 1;
     }
 }
 
@@ -47,10 +42,5 @@ pub(crate) fn factor(ws: &mut [f64], n: usize, c: f64, pivot: &mut [usize]) -> b
     matrix_rows(ws, n, c);
     let from = n * n;
     let to = n * n + n * n;
-    let answer = matrix::lu_decomp(&mut ws[from..to], &mut pivot[..n]);
-    match answer {
-        Factoring::Factored => true,
-        Factoring::WrongSize => false,
-        Factoring::Singular => false,
-    }
+    matrix::lu_decomp(&mut ws[from..to], &mut pivot[..n]).is_ok()
 }

@@ -4,7 +4,7 @@ ghost use Rattle.rules.specs.laws.Ready.{Room};
 ghost use Rattle.rules.specs.Judge.{coefficient as place, safety_of, weighed, newest as newest_of, add_next, summed, coeff, coeffs, prepared, accepted_ws};
 
 use crate::moves::copy;
-use crate::places::{CONT, DELTA, RHS, Y, Y_NEW, get, put, row};
+use crate::places::{CONT, DELTA, RHS, Y, Y_NEW, get, put, row, set_row};
 
 pub(crate) fn safety(m: usize, iters: usize) -> f64
     requires { (m ≤ 64) × (iters ≤ 64) }
@@ -18,25 +18,18 @@ pub(crate) fn weigh(ws: &mut [f64], n: usize, k: f64, v: usize)
     requires { Room n ws.old × (v < 33) }
     ensures { ws.new ≡ weighed n k v ws.old }
 {
-    let mut i = 0;
-    while i < n {
-        let x = k * get(ws, n, v, i);
-        put(ws, n, RHS, i, x);
-        i += 1;
-    }
+    set_row(ws, n, RHS, |ws, i| k * get(ws, n, v, i));
 }
 
 fn newest(ws: &mut [f64], n: usize, order: usize)
     requires { Room n ws.old × (order ≤ 5) }
     ensures { ws.new ≡ newest_of n order ws.old }
 {
-    let mut i = 0;
-    while i < n {
+    for i in 0..n {
         let x = get(ws, n, DELTA, i) - get(ws, n, order + 1, i);
         put(ws, n, order + 2, i, x);
         let y = get(ws, n, DELTA, i);
         put(ws, n, order + 1, i, y);
-        i += 1;
     }
 }
 
@@ -44,22 +37,15 @@ fn add_next(ws: &mut [f64], n: usize, k: usize)
     requires { Room n ws.old × (k ≤ 5) }
     ensures { ws.new ≡ add_next n k ws.old }
 {
-    let mut i = 0;
-    while i < n {
-        let x = get(ws, n, k, i) + get(ws, n, k + 1, i);
-        put(ws, n, k, i, x);
-        i += 1;
-    }
+    set_row(ws, n, k, |ws, i| get(ws, n, k, i) + get(ws, n, k + 1, i));
 }
 
 fn sum_up(ws: &mut [f64], n: usize, order: usize)
     requires { Room n ws.old × (order ≤ 5) }
     ensures { ws.new ≡ summed n order ws.old }
 {
-    let mut j = 0;
-    while j < order + 1 {
+    for j in 0..order + 1 {
         add_next(ws, n, order - j);
-        j += 1;
     }
 }
 
@@ -82,11 +68,9 @@ fn coefficients(ws: &mut [f64], n: usize, order: usize, i: usize)
     requires { Room n ws.old × (i < n) }
     ensures { ws.new ≡ coeffs n order i ws.old }
 {
-    let mut k = 0;
-    while k < 5 {
+    for k in 0..5 {
         let x = coefficient(ws, n, order, i, k);
         put_coefficient(ws, n, i, 1 + k, x);
-        k += 1;
     }
 }
 
@@ -94,13 +78,11 @@ fn prepare(ws: &mut [f64], n: usize, order: usize)
     requires { Room n ws.old × (order ≤ 5) }
     ensures { ws.new ≡ prepared n order ws.old }
 {
-    let mut i = 0;
-    while i < n {
+    for i in 0..n {
         let x = get(ws, n, 0, i);
         put_coefficient(ws, n, i, 0, x);
         coefficients(ws, n, order, i);
         put_coefficient(ws, n, i, 6, order as f64);
-        i += 1;
     }
 }
 

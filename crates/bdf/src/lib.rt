@@ -4,7 +4,6 @@
 mod aim;
 mod attempt;
 mod beginning;
-mod carried;
 mod checks;
 mod factor;
 mod going_on;
@@ -18,10 +17,12 @@ mod predict;
 mod reply;
 mod rescale;
 mod run;
+mod said;
 mod starting;
 mod step;
 mod tables;
+mod tolerance;
 
 pub use beginning::begin;
-pub use going_on::go_on;
+pub use going_on::{go_on, resume};
 pub use rules::{settings, types};

@@ -4,19 +4,19 @@ ghost use Rattle.rules.specs.laws.Ready.{Room};
 ghost use Rattle.rules.specs.Newton.{residual as residual_of, solved, correction, advanced_at, advanced, power as power_of, too_slow, settled as settled_of, converged as converged_of, gave_up};
 
 use crate::moves::load;
-use crate::places::{DELTA, PSI, RHS, Y_NEW, get, put, row};
+use crate::places::{DELTA, PSI, RHS, Y_NEW, get, put, row, set_row};
 use matrix::MAX_N;
 
 fn residual(ws: &mut [f64], n: usize, c: f64)
     requires { Room n ws.old }
     ensures { ws.new ≡ residual_of n c ws.old }
 {
-    let mut i = 0;
-    while i < n {
-        let x = c * get(ws, n, RHS, i) - get(ws, n, PSI, i) - get(ws, n, DELTA, i);
-        put(ws, n, RHS, i, x);
-        i += 1;
-    }
+    set_row(
+        ws,
+        n,
+        RHS,
+        |ws, i| c * get(ws, n, RHS, i) - get(ws, n, PSI, i) - get(ws, n, DELTA, i),
+    );
 }
 
 // With b, n numbers, for the right side: lin_solve changes it while it reads the matrix of the same workspace.
@@ -28,7 +28,8 @@ fn solve_by(ws: &mut [f64], b: &mut [f64], n: usize, pivot: &[usize])
     let from = n * n;
     let to = n * n + n * n;
     load(b, ws, at, 0, n);
-    matrix::lin_solve(&ws[from..to], b, &pivot[..n]);
+    // Refused or not, what it left is taken.
+    let _ = matrix::lin_solve(&ws[from..to], b, &pivot[..n]);
     load(ws, b, 0, at, n);
 }
 
@@ -62,11 +63,9 @@ pub(crate) fn advance(ws: &mut [f64], n: usize)
     requires { Room n ws.old }
     ensures { ws.new ≡ advanced n ws.old }
 {
-    let mut i = 0;
-    while i < n {
+    for i in 0..n {
         advance_at(ws, n, Y_NEW, i);
         advance_at(ws, n, DELTA, i);
-        i += 1;
     }
 }
 
@@ -75,13 +74,7 @@ fn power(x: f64, k: usize) -> f64
     requires { k ≤ 64 }
     ensures { result ≡ power_of x k }
 {
-    let mut p = 1.0;
-    let mut i = 0;
-    while i < k {
-        p = p * x;
-        i += 1;
-    }
-    p
+    (0..k).fold(1.0, |p, _| p * x)
 }
 
 fn too_slow(tol: f64, remaining: usize, prev: f64, norm: f64) -> bool

@@ -18,13 +18,10 @@ fn sum_of_squares(ws: &[f64], n: usize) -> f64
     requires { Room n ws.now }
     ensures { result ≡ sum_of_squares n ws.now }
 {
-    let mut sum = 0.0;
-    let mut i = 0;
-    while i < n {
-        sum = sum + square(get(ws, n, RHS, i), get(ws, n, SCALE, i));
-        i += 1;
-    }
-    sum
+    (0..n).fold(
+        0.0,
+        |sum, i| sum + square(get(ws, n, RHS, i), get(ws, n, SCALE, i)),
+    )
 }
 
 pub(crate) fn rhs_norm(ws: &[f64], n: usize) -> f64

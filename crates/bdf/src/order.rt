@@ -4,12 +4,12 @@ ghost use Rattle.std.specs.Float.{inf};
 ghost use Rattle.rules.specs.laws.Ready.{Room};
 ghost use Rattle.rules.specs.State.{left};
 ghost use Rattle.roots.specs.Roots.{inverse_root};
+ghost use Rattle.bdf.specs.Order.{place_of};
 ghost use Rattle.rules.specs.Order.{error_at, err_m, err_p, best_of, new_order, step_factor, choice_of};
 
 use crate::judge::weigh;
 use crate::norm::rhs_norm;
 use crate::tables::error_const;
-use roots::Root;
 use rules::stages::Choice;
 
 pub(crate) fn infinity() -> f64
@@ -53,35 +53,38 @@ pub(crate) fn factor(k: usize, x: f64) -> f64
     requires { (1 ≤ k) × (k ≤ 7) }
     ensures { result ≡ inverse_root k x }
 {
-    let r = roots::inverse_root(k, x);
-    match r {
-        Root::Value(v) => v,
-        Root::KOutside => 0.0,
-    }
+    roots::inverse_root(k, x).unwrap_or(0.0)
 }
 
-fn best(a: f64, b: f64, c: f64) -> usize
-    ensures { result ≡ best_of a b c }
+// Where the order with the greatest factor lies.
+#[derive(Clone, Copy)]
+enum Way {
+    Down,
+    Stay,
+    Up,
+}
+
+fn best(a: f64, b: f64, c: f64) -> Way
+    ensures { place_of result ≡ best_of a b c }
 {
     if b < a {
-        if c < a { 0 } else { 2 }
+        if c < a { Way::Down } else { Way::Up }
     } else if c < b {
-        1
+        Way::Stay
     } else {
-        2
+        Way::Up
     }
 }
 
-fn new_order(order: usize, best: usize) -> usize
+// An order stays a number: the state that a caller hands in holds it so, and is checked there.
+fn new_order(order: usize, best: Way) -> usize
     requires { order ≤ 5 }
-    ensures { result ≡ new_order order best }
+    ensures { result ≡ new_order order (place_of best) }
 {
-    if best == 0 && 1 < order {
-        order - 1
-    } else if best == 2 && order < 5 {
-        order + 1
-    } else {
-        order
+    match best {
+        Way::Down if 1 < order => order - 1,
+        Way::Up if order < 5 => order + 1,
+        _ => order,
     }
 }
 

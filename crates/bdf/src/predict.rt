@@ -3,7 +3,7 @@ ghost use Rattle.std.specs.Prelude.{◌≡◌, ◌<◌, ◌≤◌};
 ghost use Rattle.rules.specs.laws.Ready.{Room};
 ghost use Rattle.rules.specs.Predict.{predicted as predicted_of, predict as predict_of, scale_of, scale_at, scaled, psi_sum, psied};
 
-use crate::places::{ATOL, PSI, RTOL, SCALE, Y_PREDICT, get, put};
+use crate::places::{ATOL, PSI, RTOL, SCALE, Y_PREDICT, get, set_row};
 use crate::tables::{alpha, gamma};
 
 pub(crate) const EPSILON: f64 = 2.220446049250313e-16;
@@ -13,25 +13,14 @@ fn predicted(ws: &[f64], n: usize, order: usize, i: usize) -> f64
     requires { Room n ws.now × (order ≤ 5) × (i < n) }
     ensures { result ≡ predicted_of n ws.now order i }
 {
-    let mut sum = 0.0;
-    let mut k = 0;
-    while k < order + 1 {
-        sum = sum + get(ws, n, k, i);
-        k += 1;
-    }
-    sum
+    (0..order + 1).fold(0.0, |sum, k| sum + get(ws, n, k, i))
 }
 
 pub(crate) fn predict(ws: &mut [f64], n: usize, order: usize)
     requires { Room n ws.old × (order ≤ 5) }
     ensures { ws.new ≡ predict_of n order ws.old }
 {
-    let mut i = 0;
-    while i < n {
-        let s = predicted(ws, n, order, i);
-        put(ws, n, Y_PREDICT, i, s);
-        i += 1;
-    }
+    set_row(ws, n, Y_PREDICT, |ws, i| predicted(ws, n, order, i));
 }
 
 // What an error is measured by: the absolute tolerance, and the relative one times the magnitude.
@@ -54,25 +43,14 @@ pub(crate) fn rescale(ws: &mut [f64], n: usize, v: usize)
     requires { Room n ws.old × (v < 33) }
     ensures { ws.new ≡ scaled n v ws.old }
 {
-    let mut i = 0;
-    while i < n {
-        let s = scale_at(ws, n, v, i);
-        put(ws, n, SCALE, i, s);
-        i += 1;
-    }
+    set_row(ws, n, SCALE, |ws, i| scale_at(ws, n, v, i));
 }
 
 fn psi_sum(ws: &[f64], n: usize, order: usize, i: usize) -> f64
     requires { Room n ws.now × (order ≤ 5) × (i < n) }
     ensures { result ≡ psi_sum n ws.now order i }
 {
-    let mut s = 0.0;
-    let mut j = 1;
-    while j < order + 1 {
-        s = s + gamma(j) * get(ws, n, j, i);
-        j += 1;
-    }
-    s
+    (1..order + 1).fold(0.0, |s, j| s + gamma(j) * get(ws, n, j, i))
 }
 
 pub(crate) fn psi(ws: &mut [f64], n: usize, order: usize)
@@ -80,10 +58,5 @@ pub(crate) fn psi(ws: &mut [f64], n: usize, order: usize)
     ensures { ws.new ≡ psied n order ws.old }
 {
     let a = alpha(order);
-    let mut i = 0;
-    while i < n {
-        let s = psi_sum(ws, n, order, i) / a;
-        put(ws, n, PSI, i, s);
-        i += 1;
-    }
+    set_row(ws, n, PSI, |ws, i| psi_sum(ws, n, order, i) / a);
 }

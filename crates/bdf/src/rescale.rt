@@ -121,13 +121,13 @@ fn matmul(a: &[f64; 36], b: &[f64; 36], size: usize) -> [f64; 36]
 }
 
 // ru: the table at the factor, times the unit coefficients.
-fn ru_of(order: usize, factor: f64) -> [f64; 36]
-    requires { order ≤ max_order }
-    ensures { result ≡ product (compute_r order factor) (compute_r order one) (order + 1) }
+fn ru_of<const ORDER: usize>(factor: f64) -> [f64; 36]
+    requires { ORDER ≤ max_order }
+    ensures { result ≡ product (compute_r ORDER factor) (compute_r ORDER one) (ORDER + 1) }
 {
-    let r = compute_r(order, factor);
+    let r = compute_r(ORDER, factor);
     let u = unit_r();
-    matmul(&r, &u, order + 1)
+    matmul(&r, &u, ORDER + 1)
 }
 
 // The same, for speed: in each call the order is a literal, so the compiler unrolls the loops and folds the unit coefficients in. With the
@@ -137,11 +137,11 @@ fn ru_by_order(order: usize, factor: f64) -> [f64; 36]
     ensures { result ≡ product (compute_r order factor) (compute_r order one) (order + 1) }
 {
     match order {
-        1 => ru_of(1, factor),
-        2 => ru_of(2, factor),
-        3 => ru_of(3, factor),
-        4 => ru_of(4, factor),
-        _ => ru_of(5, factor),
+        1 => ru_of::<1>(factor),
+        2 => ru_of::<2>(factor),
+        3 => ru_of::<3>(factor),
+        4 => ru_of::<4>(factor),
+        _ => ru_of::<5>(factor),
     }
 }
 

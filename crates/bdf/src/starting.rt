@@ -3,7 +3,7 @@ ghost use Rattle.std.specs.Prelude.{◌≡◌, ◌+◌, ◌*◌, ◌<◌, ◌≤
 ghost use Rattle.rules.specs.laws.Ready.{Room};
 ghost use Rattle.rules.specs.Starting.{sk as sk_of, squares as squares_of, raw_guess, first_guess, guess as guess_of, euler as euler_of, second as second_of, h1 as h1_of, final_guess, hinit as hinit_of, within_span};
 
-use crate::places::{ATOL, F0, F1, RTOL, Y, Y1, get, put};
+use crate::places::{ATOL, F0, F1, RTOL, Y, Y1, get, set_row};
 
 fn sk(ws: &[f64], n: usize, i: usize) -> f64
     requires { Room n ws.now × (i < n) }
@@ -16,14 +16,10 @@ fn squares(ws: &[f64], n: usize, v: usize) -> f64
     requires { Room n ws.now × (v < 33) }
     ensures { result ≡ squares_of n v ws.now }
 {
-    let mut sum = 0.0;
-    let mut i = 0;
-    while i < n {
+    (0..n).fold(0.0, |sum, i| {
         let t = get(ws, n, v, i) / sk(ws, n, i);
-        sum = sum + t * t;
-        i += 1;
-    }
-    sum
+        sum + t * t
+    })
 }
 
 // The first guess before it is bounded.
@@ -57,26 +53,17 @@ pub(crate) fn euler(ws: &mut [f64], n: usize, h: f64)
     requires { Room n ws.old }
     ensures { ws.new ≡ euler_of n h ws.old }
 {
-    let mut i = 0;
-    while i < n {
-        let x = get(ws, n, Y, i) + h * get(ws, n, F0, i);
-        put(ws, n, Y1, i, x);
-        i += 1;
-    }
+    set_row(ws, n, Y1, |ws, i| get(ws, n, Y, i) + h * get(ws, n, F0, i));
 }
 
 fn second(ws: &[f64], n: usize) -> f64
     requires { Room n ws.now }
     ensures { result ≡ second_of n ws.now }
 {
-    let mut sum = 0.0;
-    let mut i = 0;
-    while i < n {
+    (0..n).fold(0.0, |sum, i| {
         let df = (get(ws, n, F1, i) - get(ws, n, F0, i)) / sk(ws, n, i);
-        sum = sum + df * df;
-        i += 1;
-    }
-    sum
+        sum + df * df
+    })
 }
 
 // The step that the derivatives allow.

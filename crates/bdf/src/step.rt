@@ -1,14 +1,13 @@
 // What follows a Newton derivative's reply.
-ghost use Rattle.std.specs.Prelude.{◌≡◌, ℕ, ◌+◌, ◌*◌, ◌<◌, ◌≤◌, List, length, ◌==◌};
-ghost use Rattle.matrix.specs.Size.{max_n};
+ghost use Rattle.std.specs.Prelude.{◌≡◌, ◌+◌, ◌*◌, ◌<◌, ◌≤◌, length, ◌==◌};
 ghost use Rattle.rules.specs.laws.Ready.{Room, Sane, Ready, Awake, Judging};
 ghost use Rattle.rules.specs.State.{left, after};
-ghost use Rattle.bdf.specs.Core.{whole, bare, tried};
+ghost use Rattle.bdf.specs.Said.{turn_of, tried};
+ghost use Rattle.rules.specs.Attempt.{rejected, says};
 ghost use Rattle.rules.specs.Step.{error_fails, error_factor, error_rejected, step_accepted, judged, newton_failed, newton_again, iterated as iterated_of, newton_replied};
 
 use crate::aim::rescale_d;
 use crate::attempt::tell;
-use crate::carried::{Core, Outcome, again, says};
 use crate::judge::{accept, safety, weigh};
 use crate::moves::load;
 use crate::newton::{advance, converged, correct, gave_up};
@@ -16,16 +15,14 @@ use crate::norm::rhs_norm;
 use crate::order::factor;
 use crate::places::{CONT, DELTA, Y, Y_NEW, Y_PREDICT, row};
 use crate::predict::rescale;
+use crate::said::Said;
 use crate::tables::error_const;
-use rules::types::{Answer, Awaited};
+use rules::types::{Answer, Awaited, Progress};
 
 fn error_fails(guarded: usize, norm: f64) -> bool
     ensures { result ≡ error_fails (guarded == 1) norm }
 {
-    if norm > 1.0 {
-        return true;
-    }
-    guarded == 1 && norm != norm
+    norm > 1.0 || guarded == 1 && norm.is_nan()
 }
 
 // Only a guarded run comes here with a norm that is NaN.
@@ -33,122 +30,112 @@ fn error_factor(order: usize, safety: f64, norm: f64) -> f64
     requires { order ≤ 5 }
     ensures { result ≡ error_factor order safety norm }
 {
-    if norm != norm {
+    if norm.is_nan() {
         return 0.5;
     }
     number::max(safety * factor(order + 1, norm), 0.2)
 }
 
-fn error_rejected(ws: &mut [f64], p: Core, safety: f64, norm: f64) -> Outcome
-    requires { Room p.n ws.old × Sane (bare p) }
-    ensures { (pivot : List ℕ) → left (tried result pivot) ws.new ≡ error_rejected (whole p pivot) safety norm ws.old }
+// The factoring is kept.
+fn error_rejected(ws: &mut [f64], p: &mut Progress, safety: f64, norm: f64)
+    requires { Room p.old.n ws.old × Sane p.old }
+    ensures { left (rejected p.new) ws.new ≡ error_rejected p.old safety norm ws.old }
 {
     let factor = error_factor(p.order, safety, norm);
     rescale_d(ws, p.n, p.order, factor);
-    let mut r = p;
-    let h = p.pace.h * factor;
-    r.pace.h = h;
-    r.pace.equal_steps = 0;
-    let rejected = p.steps.rejected + 1;
-    r.steps.rejected = rejected;
-    again(r)
+    p.pace.h *= factor;
+    p.pace.equal_steps = 0;
+    p.steps.rejected += 1;
 }
 
-fn step_accepted(ws: &mut [f64], q: &mut [f64], p: Core, safety: f64, norm: f64) -> Outcome
-    requires { Ready (bare p) ws.old q.old × Judging (bare p) }
-    ensures { (pivot : List ℕ) → after (tried result pivot) ws.new q.new ≡ step_accepted (whole p pivot) safety norm ws.old q.old }
+fn step_accepted(ws: &mut [f64], q: &mut [f64], p: &mut Progress, safety: f64, norm: f64) -> Said
+    requires { Ready p.old ws.old q.old × Judging p.old }
+    ensures { after (says (turn_of result p.new)) ws.new q.new ≡ step_accepted p.old safety norm ws.old q.old }
 {
     accept(ws, p.n, p.order);
     tell(q, ws, p.n, Y);
     load(q, ws, row(p.n, CONT), p.n, 7 * p.n);
-    let a = p.aim;
-    let mut r = p;
-    let accepted = p.steps.accepted + 1;
-    r.steps.accepted = accepted;
-    r.x = a.x_new;
-    let equal_steps = p.pace.equal_steps + 1;
-    r.pace.equal_steps = equal_steps;
-    r.newton.safety = safety;
-    r.newton.error_norm = norm;
-    says(
-        Answer::Step {
-            old: a.x_new - a.h_signed,
-            new: a.x_new,
-            start: a.x_start,
-            h: a.h_signed,
+    p.steps.accepted += 1;
+    p.x = p.aim.x_new;
+    p.pace.equal_steps += 1;
+    p.newton.safety = safety;
+    p.newton.error_norm = norm;
+    Said {
+        answer: Answer::Step {
+            old: p.aim.x_new - p.aim.h_signed,
+            new: p.aim.x_new,
+            start: p.aim.x_start,
+            h: p.aim.h_signed,
         },
-        Awaited::StepNotice,
-        r,
-    )
+        awaited: Awaited::StepNotice,
+    }
 }
 
-fn judge(ws: &mut [f64], q: &mut [f64], p: Core) -> Outcome
-    requires { Ready (bare p) ws.old q.old × Judging (bare p) × (p.newton.iters ≤ 64) }
-    ensures { (pivot : List ℕ) → after (tried result pivot) ws.new q.new ≡ judged (whole p pivot) ws.old q.old }
+fn judge(ws: &mut [f64], q: &mut [f64], p: &mut Progress) -> Option<Said>
+    requires { Ready p.old ws.old q.old × Judging p.old × (p.old.newton.iters ≤ 64) }
+    ensures { after (tried result p.new) ws.new q.new ≡ judged p.old ws.old q.old }
 {
     rescale(ws, p.n, Y_NEW);
     weigh(ws, p.n, error_const(p.order), DELTA);
     let norm = rhs_norm(ws, p.n);
     let s = safety(p.limits.newton, p.newton.iters);
     if error_fails(p.limits.guarded, norm) {
-        return error_rejected(ws, p, s, norm);
+        error_rejected(ws, p, s, norm);
+        return None;
     }
-    step_accepted(ws, q, p, s, norm)
+    Some(step_accepted(ws, q, p, s, norm))
 }
 
-fn newton_failed(ws: &[f64], q: &mut [f64], p: Core) -> Outcome
-    requires { Room p.n ws.now × (8 * p.n ≤ length q.old) }
-    ensures { (pivot : List ℕ) → after (tried result pivot) ws.now q.new ≡ newton_failed (whole p pivot) ws.now q.old }
+fn newton_failed(ws: &[f64], q: &mut [f64], p: &Progress) -> Said
+    requires { Room p.now.n ws.now × (8 * p.now.n ≤ length q.old) }
+    ensures { after (says (turn_of result p.now)) ws.now q.new ≡ newton_failed p.now ws.now q.old }
 {
     tell(q, ws, p.n, Y_PREDICT);
-    says(Answer::Jacobian(p.aim.x_new), Awaited::FailedJacobian, p)
+    Said {
+        answer: Answer::Jacobian(p.aim.x_new),
+        awaited: Awaited::FailedJacobian,
+    }
 }
 
-fn newton_again(ws: &[f64], q: &mut [f64], p: Core, norm: f64) -> Outcome
-    requires { Room p.n ws.now × (8 * p.n ≤ length q.old) × (p.newton.iters ≤ 64) }
-    ensures { (pivot : List ℕ) → after (tried result pivot) ws.now q.new ≡ newton_again (whole p pivot) norm ws.now q.old }
+fn newton_again(ws: &[f64], q: &mut [f64], p: &mut Progress, norm: f64) -> Said
+    requires { Room p.old.n ws.now × (8 * p.old.n ≤ length q.old) × (p.old.newton.iters ≤ 64) }
+    ensures { after (says (turn_of result p.new)) ws.now q.new ≡ newton_again p.old norm ws.now q.old }
 {
     tell(q, ws, p.n, Y_NEW);
-    let mut r = p;
-    let iters = p.newton.iters + 1;
-    r.newton.iters = iters;
-    r.newton.prev = norm;
-    says(
-        Answer::Derivative(p.aim.x_new),
-        Awaited::NewtonDerivative,
-        r,
-    )
+    p.newton.iters += 1;
+    p.newton.prev = norm;
+    Said {
+        answer: Answer::Derivative(p.aim.x_new),
+        awaited: Awaited::NewtonDerivative,
+    }
 }
 
-fn iterated(ws: &mut [f64], q: &mut [f64], p: Core, norm: f64) -> Outcome
-    requires { Ready (bare p) ws.old q.old × Judging (bare p) × (p.newton.iters < p.limits.newton) }
-    ensures { (pivot : List ℕ) → after (tried result pivot) ws.new q.new ≡ iterated_of (whole p pivot) norm ws.old q.old }
+fn iterated(ws: &mut [f64], q: &mut [f64], p: &mut Progress, norm: f64) -> Option<Said>
+    requires { Ready p.old ws.old q.old × Judging p.old × (p.old.newton.iters < p.old.limits.newton) }
+    ensures { after (tried result p.new) ws.new q.new ≡ iterated_of p.old norm ws.old q.old }
 {
     let tol = p.span.newton_tol;
     if converged(tol, p.newton.iters, p.newton.prev, norm) {
         return judge(ws, q, p);
     }
     if gave_up(tol, p.limits.newton, p.newton.iters, p.newton.prev, norm) {
-        return newton_failed(ws, q, p);
+        return Some(newton_failed(ws, q, p));
     }
-    newton_again(ws, q, p, norm)
+    Some(newton_again(ws, q, p, norm))
 }
 
 pub(crate) fn newton_replied(
     ws: &mut [f64],
     q: &mut [f64],
-    pivot: &[usize],
-    p: Core,
+    p: &mut Progress,
     values: &[f64],
-) -> Outcome
-    requires { Ready (bare p) ws.old q.old × Awake (bare p) × (p.n ≤ length values.now) × (p.newton.iters < p.limits.newton) × (max_n ≤ length pivot.now) }
-    ensures { after (tried result pivot.now) ws.new q.new ≡ newton_replied (whole p pivot.now) values.now ws.old q.old }
+) -> Option<Said>
+    requires { Ready p.old ws.old q.old × Awake p.old × (p.old.n ≤ length values.now) × (p.old.newton.iters < p.old.limits.newton) }
+    ensures { after (tried result p.new) ws.new q.new ≡ newton_replied p.old values.now ws.old q.old }
 {
-    correct(ws, p.n, p.aim.c, pivot, values);
+    correct(ws, p.n, p.aim.c, &p.pivot, values);
     let norm = rhs_norm(ws, p.n);
     advance(ws, p.n);
-    let mut r = p;
-    let ode = p.evals.ode + 1;
-    r.evals.ode = ode;
-    iterated(ws, q, r, norm)
+    p.evals.ode += 1;
+    iterated(ws, q, p, norm)
 }

@@ -5,37 +5,37 @@
 mod decimal;
 mod run;
 
-use run::Outcome;
-use text::Place;
+use decimal::Decimal;
+use run::{Failure, Voltages};
+use std::fmt::Write;
+use text::Page;
 
 // Room for both lines.
 const PAGE: usize = 256;
 
 fn main(rt: HostRuntime) {
     let mut out = [0u8; PAGE];
-    let end = report(&mut out, run::discharge());
-    if !text::stands(output::flush(&mut rt.stdout(), &out, end)) {
+    let mut page = Page::new(&mut out);
+    report(&mut page, run::discharge());
+    output::flush(&mut rt.stdout(), &mut page);
+    if page.is_full() {
         let _ = rt.eprintln("discharge: standard output was not written");
     }
 }
 
-fn report(out: &mut [u8], outcome: Outcome) -> Place {
-    let top = Place::At(0);
+fn report(page: &mut Page, outcome: Result<Voltages, Failure>) {
     match outcome {
-        Outcome::Reached { middle, end } => {
-            let next = line(out, top, b"V2 at 0.5: ", middle);
-            line(out, next, b"V2 at 1.0: ", end)
+        Ok(Voltages { middle, end }) => {
+            line(page, "V2 at 0.5", middle);
+            line(page, "V2 at 1.0", end);
         }
-        Outcome::Unfinished => text::put_bytes(out, top, b"UNFINISHED\n"),
-        Outcome::Refused => text::put_bytes(out, top, b"REFUSED\n"),
+        Err(Failure::Unfinished) => page.put_bytes(b"UNFINISHED\n"),
+        Err(Failure::Refused) => page.put_bytes(b"REFUSED\n"),
     }
 }
 
 // A value for people to read, and behind it the 16 digits of the double that it is, which nothing has rounded.
-fn line(out: &mut [u8], place: Place, words: &[u8], x: f64) -> Place {
-    let at = text::put_bytes(out, place, words);
-    let shown = decimal::put_decimal(out, at, x);
-    let next = text::put_byte(out, shown, b' ');
-    let end = text::put_double(out, next, x);
-    text::put_byte(out, end, b'\n')
+fn line(page: &mut Page, name: &str, x: f64) {
+    // A page without room for it is full, and says so when it is written out.
+    let _ = writeln!(page, "{name}: {} {:016X}", Decimal(x), text::bits(x));
 }

@@ -1,4 +1,4 @@
--- How many forgeries there are (`FORGERIES`, src/forge.rt).
+-- How many forgeries there are (`Forgery::ALL`, src/forge.rt).
 use Rattle.std.specs.Prelude.{ℕ}
 
 abbrev pub forgery_count : ℕ

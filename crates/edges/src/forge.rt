@@ -1,14 +1,13 @@
-// Forged states: a run's state with one of the bounds of damage crossed by one (`by` is 1), or just met (`by` is 0).
+// Forged states: a run's state with one of the bounds of damage crossed by one, or just met.
 // A state crosses no other bound besides: what the change itself would break is changed with it. So no damage hides another;
 // but for a Newton limit of 0 while a Newton derivative is awaited, where no count is below it.
 ghost use Rattle.std.specs.Prelude.{◌≤◌};
 
-use crate::fields;
-use rules::types::{Awaited, Newton, Progress, Run};
-use std::num;
+use rules::types::{Awaited, Evals, Progress, Refusal, Run, Steps};
+use std::fmt;
 
 // What is forged; from `Accepted` on T, A and m are those of docs/RULES.md. Those from AcceptedMax on have only one of the two sides.
-#[derive(Clone, Copy)]
+#[derive(Clone, Copy, PartialEq, Eq)]
 pub(crate) enum Forgery {
     Size,
     NoSize,
@@ -36,203 +35,233 @@ pub(crate) enum Forgery {
     Nothing,
 }
 
-pub(crate) const FORGERIES: usize = 24;
+// The two sides of a bound of damage.
+#[derive(Clone, Copy, PartialEq, Eq)]
+pub(crate) enum Side {
+    // Crossed by one: the state is damaged.
+    Beyond,
+    // Just met: it is not.
+    At,
+}
 
-pub(crate) fn numbered(k: usize) -> Forgery {
-    match k {
-        0 => Forgery::Size,
-        1 => Forgery::NoSize,
-        2 => Forgery::LowOrder,
-        3 => Forgery::HighOrder,
-        4 => Forgery::LowStepLimit,
-        5 => Forgery::HighStepLimit,
-        6 => Forgery::LowNewtonLimit,
-        7 => Forgery::HighNewtonLimit,
-        8 => Forgery::Pivot,
-        9 => Forgery::Total,
-        10 => Forgery::Accepted,
-        11 => Forgery::Rejected,
-        12 => Forgery::EqualSteps,
-        13 => Forgery::Factorings,
-        14 => Forgery::Jacobians,
-        15 => Forgery::Derivatives,
-        16 => Forgery::Start,
-        17 => Forgery::NewtonCount,
-        18 => Forgery::AcceptedMax,
-        19 => Forgery::RejectedMax,
-        20 => Forgery::OtherCount,
-        21 => Forgery::LastPivot,
-        22 => Forgery::NotNumbers,
-        _ => Forgery::Nothing,
+impl Side {
+    pub(crate) const BOTH: [Side; 2] = [Side::Beyond, Side::At];
+
+    // How far beyond the bound.
+    fn by(self) -> usize
+        ensures { result ≤ 1 }
+    {
+        usize::from(self == Side::Beyond)
     }
 }
 
-// What going on must answer where the reply's kind does not suit; 0 where this state has no such forgery.
-pub(crate) fn expected(f: Forgery, by: usize, run: Run) -> u64 {
-    let w = run.awaited;
-    let at = run.at;
-    if !applies(f, by, w, at.n) {
-        return 0;
-    }
-    if by == 1 {
-        return 9;
-    }
-    undamaged(f, w)
-}
+impl Forgery {
+    pub(crate) const ALL: [Forgery; 24] = [
+        Forgery::Size,
+        Forgery::NoSize,
+        Forgery::LowOrder,
+        Forgery::HighOrder,
+        Forgery::LowStepLimit,
+        Forgery::HighStepLimit,
+        Forgery::LowNewtonLimit,
+        Forgery::HighNewtonLimit,
+        Forgery::Pivot,
+        Forgery::Total,
+        Forgery::Accepted,
+        Forgery::Rejected,
+        Forgery::EqualSteps,
+        Forgery::Factorings,
+        Forgery::Jacobians,
+        Forgery::Derivatives,
+        Forgery::Start,
+        Forgery::NewtonCount,
+        Forgery::AcceptedMax,
+        Forgery::RejectedMax,
+        Forgery::OtherCount,
+        Forgery::LastPivot,
+        Forgery::NotNumbers,
+        Forgery::Nothing,
+    ];
 
-fn undamaged(f: Forgery, w: Awaited) -> u64 {
-    match f {
-        Forgery::NoSize => 10,
-        _ => { if ended(w) { 10 } else { 11 } }
-    }
-}
-
-fn applies(f: Forgery, by: usize, w: Awaited, n: usize) -> bool {
-    match f {
-        Forgery::NoSize => by == 0 || !ended(w),
-        Forgery::Pivot => 1 < n,
-        Forgery::NewtonCount => awaits_newton(w),
-        Forgery::OtherCount => by == 0 && !awaits_newton(w),
-        Forgery::AcceptedMax | Forgery::RejectedMax => by == 1,
-        Forgery::LastPivot | Forgery::NotNumbers | Forgery::Nothing => by == 0,
-        _ => true,
-    }
-}
-
-// Whether the state is another than the run's own.
-pub(crate) fn is_forged(f: Forgery) -> bool {
-    match f {
-        Forgery::Nothing => false,
-        _ => true,
-    }
-}
-
-pub(crate) const PLACES: usize = 13;
-
-// The number of a place, in the order in which `Awaited` lists them.
-pub(crate) fn place(w: Awaited) -> usize
-    ensures { result ≤ 12 }
-{
-    match w {
-        Awaited::FirstDerivative => 0,
-        Awaited::FirstJacobian => 1,
-        Awaited::StartDerivative => 2,
-        Awaited::StartNotice => 3,
-        Awaited::ModifiedStartDerivative => 4,
-        Awaited::ModifiedStartJacobian => 5,
-        Awaited::NewtonDerivative => 6,
-        Awaited::FailedJacobian => 7,
-        Awaited::StepNotice => 8,
-        Awaited::ModifiedStepDerivative => 9,
-        Awaited::ModifiedStepJacobian => 10,
-        Awaited::OrderJacobian => 11,
-        Awaited::Ended => 12,
-    }
-}
-
-fn ended(w: Awaited) -> bool {
-    match w {
-        Awaited::Ended => true,
-        _ => false,
-    }
-}
-
-fn awaits_newton(w: Awaited) -> bool {
-    match w {
-        Awaited::NewtonDerivative => true,
-        _ => false,
-    }
-}
-
-pub(crate) fn forged(f: Forgery, by: usize, run: Run) -> Run
-    requires { by ≤ 1 }
-{
-    let w = run.awaited;
-    let p = run.at;
-    Run {
-        awaited: placed(f, by, w),
-        at: changed(f, by, p),
-    }
-}
-
-// Without components a state is damaged unless it has ended.
-fn placed(f: Forgery, by: usize, w: Awaited) -> Awaited {
-    match f {
-        Forgery::NoSize => {
-            if by == 0 {
-                return Awaited::Ended;
-            }
-            w
+    // What going on must answer where the reply's kind does not suit; nothing where this state has no such forgery.
+    pub(crate) fn expected(self, side: Side, run: &Run) -> Option<Refusal> {
+        if !self.applies(side, run) {
+            return None;
         }
-        _ => w,
+        Some(match side {
+            Side::Beyond => Refusal::Damaged,
+            Side::At if self == Forgery::NoSize || has_ended(run) => Refusal::HasEnded,
+            Side::At => Refusal::WrongReply,
+        })
+    }
+
+    fn applies(self, side: Side, run: &Run) -> bool {
+        let at = side == Side::At;
+        match self {
+            Forgery::NoSize => at || !has_ended(run),
+            Forgery::Pivot => 1 < run.at.n,
+            Forgery::NewtonCount => awaits_newton(run),
+            Forgery::OtherCount => at && !awaits_newton(run),
+            Forgery::AcceptedMax | Forgery::RejectedMax => !at,
+            Forgery::LastPivot | Forgery::NotNumbers | Forgery::Nothing => at,
+            _ => true,
+        }
+    }
+
+    // The forged state. Without components a state is damaged unless it has ended.
+    pub(crate) fn forged(self, side: Side, run: Run) -> Run {
+        let mut forged = run;
+        if self == Forgery::NoSize && side == Side::At {
+            forged.awaited = Awaited::Ended;
+        }
+        self.change(&mut forged.at, side);
+        forged
+    }
+
+    fn change(self, p: &mut Progress, side: Side) {
+        let by = side.by();
+        match self {
+            Forgery::Size => p.n = 32 + by,
+            Forgery::NoSize => p.n = 0,
+            Forgery::LowOrder => p.order = 1 - by,
+            Forgery::HighOrder => p.order = 5 + by,
+            Forgery::LowStepLimit => {
+                uncount(p);
+                p.limits.steps = 1 - by;
+            }
+            Forgery::HighStepLimit => p.limits.steps = 1000000 + by,
+            Forgery::LowNewtonLimit => {
+                p.newton.iters = 0;
+                p.evals.ode = 0;
+                p.limits.newton = 1 - by;
+            }
+            Forgery::HighNewtonLimit => p.limits.newton = 64 + by,
+            Forgery::Pivot => turn_pivot(p, side),
+            Forgery::LastPivot => set_pivot(p, p.n.wrapping_sub(1), p.n),
+            Forgery::NotNumbers => lose_numbers(p),
+            _ => self.change_count(p, side),
+        }
+    }
+
+    // A run's counters are far from where these wrap.
+    fn change_count(self, p: &mut Progress, side: Side) {
+        let by = side.by();
+        let steps = p.steps;
+        let total = steps.total;
+        match self {
+            Forgery::Total => p.steps.total = p.limits.steps.wrapping_add(by),
+            Forgery::Accepted => p.steps.accepted = total
+                .wrapping_sub(steps.rejected)
+                .wrapping_add(by),
+            Forgery::Rejected => p.steps.rejected = total
+                .wrapping_sub(steps.accepted)
+                .wrapping_add(by),
+            Forgery::EqualSteps => p.pace.equal_steps = steps.accepted.wrapping_add(by),
+            Forgery::Factorings => p.evals.lu = total.wrapping_add(by),
+            Forgery::Jacobians => p.evals.jac = total.wrapping_add(2 + by),
+            Forgery::Derivatives => p.evals.ode = most_derivatives(p).wrapping_add(by),
+            Forgery::Start => p.evals.start = 1 + by,
+            Forgery::NewtonCount => p.newton.iters = p.limits.newton.wrapping_sub(1 - by),
+            Forgery::OtherCount => p.newton.iters = p.limits.newton,
+            Forgery::AcceptedMax => {
+                p.evals.ode = 0;
+                p.steps.rejected = 1;
+                p.steps.accepted = usize::MAX;
+            }
+            Forgery::RejectedMax => p.steps.rejected = usize::MAX,
+            _ => {}
+        }
     }
 }
 
-fn changed(f: Forgery, by: usize, p: Progress) -> Progress
-    requires { by ≤ 1 }
-{
-    match f {
-        Forgery::Size => fields::sized(p, 32 + by),
-        Forgery::NoSize => fields::sized(p, 0),
-        Forgery::LowOrder => fields::ordered(p, 1 - by),
-        Forgery::HighOrder => fields::ordered(p, 5 + by),
-        Forgery::LowStepLimit => fields::step_limited(fields::uncounted(p), 1 - by),
-        Forgery::HighStepLimit => fields::step_limited(p, 1000000 + by),
-        Forgery::LowNewtonLimit => fields::newton_limited(
-            fields::derived(fields::counted(p, 0), 0),
-            1 - by,
-        ),
-        Forgery::HighNewtonLimit => fields::newton_limited(p, 64 + by),
-        Forgery::Pivot => fields::turned_pivot(p, by),
-        Forgery::LastPivot => fields::last_pivot(p),
-        Forgery::NotNumbers => fields::no_numbers(p),
-        Forgery::NewtonCount => fields::counted(p, fields::before(p.limits.newton, 1 - by)),
-        Forgery::OtherCount => fields::counted(p, p.limits.newton),
-        _ => stepped(f, by, p),
+fn has_ended(run: &Run) -> bool {
+    matches!(run.awaited, Awaited::Ended)
+}
+
+fn awaits_newton(run: &Run) -> bool {
+    matches!(run.awaited, Awaited::NewtonDerivative)
+}
+
+// As before the first attempt, so that no limit is too low for what is counted.
+fn uncount(p: &mut Progress) {
+    p.steps = Steps::new();
+    p.evals = Evals::new();
+    p.pace.equal_steps = 0;
+}
+
+// One of the first n - 1 pivots, another from derivative to derivative.
+fn turn_pivot(p: &mut Progress, side: Side) {
+    if p.n > 1 {
+        set_pivot(p, p.evals.ode % (p.n - 1), p.n - 1 + side.by());
     }
 }
 
-fn stepped(f: Forgery, by: usize, p: Progress) -> Progress {
-    let rest = fields::before(p.steps.total, p.steps.rejected);
-    let other = fields::before(p.steps.total, p.steps.accepted);
-    match f {
-        Forgery::Total => fields::totalled(p, beyond(p.limits.steps, by)),
-        Forgery::Accepted => fields::accepted(p, beyond(rest, by)),
-        Forgery::Rejected => fields::rejected(p, beyond(other, by)),
-        Forgery::AcceptedMax => fields::accepted(
-            fields::rejected(fields::derived(p, 0), 1),
-            usize::MAX,
-        ),
-        Forgery::RejectedMax => fields::rejected(p, usize::MAX),
-        _ => evaluated(f, by, p),
+fn set_pivot(p: &mut Progress, i: usize, row: usize) {
+    if let Some(pivot) = p.pivot.get_mut(i) {
+        *pivot = row;
     }
-}
-
-fn evaluated(f: Forgery, by: usize, p: Progress) -> Progress {
-    match f {
-        Forgery::EqualSteps => fields::equal(p, beyond(p.steps.accepted, by)),
-        Forgery::Factorings => fields::factored(p, beyond(p.steps.total, by)),
-        Forgery::Jacobians => fields::jacobians(p, beyond(beyond(p.steps.total, 2), by)),
-        Forgery::Derivatives => fields::derived(p, beyond(most_derivatives(p), by)),
-        Forgery::Start => fields::started(p, beyond(1, by)),
-        _ => p,
-    }
-}
-
-// A run's counters are far below where these wrap.
-fn beyond(bound: usize, by: usize) -> usize {
-    num::wrapping_add_usize(bound, by)
 }
 
 // 2 + mT + A; past the limits, which no run is, nothing is asked for.
-fn most_derivatives(p: Progress) -> usize {
+fn most_derivatives(p: &Progress) -> usize {
     let m = p.limits.newton;
     let total = p.steps.total;
-    if 64 < m {
+    if 64 < m || 1000000 < total {
         return 0;
     }
-    if 1000000 < total {
-        return 0;
+    (2 + m * total).wrapping_add(p.steps.accepted)
+}
+
+// Every number of the state is NaN, and its guard is turned.
+fn lose_numbers(p: &mut Progress) {
+    let nan = 0.0 / 0.0;
+    p.limits.guarded = if p.limits.guarded == 1 { 0 } else { 1 };
+    p.span.xend = nan;
+    p.span.direction = nan;
+    p.span.hmax = nan;
+    p.span.hmin = nan;
+    p.span.newton_tol = nan;
+    p.span.first_step = Some(nan);
+    p.x = nan;
+    p.pace.h = nan;
+    p.aim.h_signed = nan;
+    p.aim.x_start = nan;
+    p.aim.x_new = nan;
+    p.aim.c = nan;
+    p.current_c = nan;
+    p.newton.prev = nan;
+    p.newton.safety = nan;
+    p.newton.error_norm = nan;
+}
+
+// The names: what is damaged stands before the stroke, and what is not behind it.
+impl fmt::Display for Forgery {
+    fn fmt<W: fmt::Write>(&self, f: &mut fmt::Formatter<W>) -> fmt::Result {
+        f.write_str(match self {
+            Forgery::Size => "n 33 / 32",
+            Forgery::NoSize => "n 0, not ended / ended",
+            Forgery::LowOrder => "order 0 / 1",
+            Forgery::HighOrder => "order 6 / 5",
+            Forgery::LowStepLimit => "step limit 0 / 1",
+            Forgery::HighStepLimit => "step limit 1000001 / 1000000",
+            Forgery::LowNewtonLimit => "Newton limit 0 / 1",
+            Forgery::HighNewtonLimit => "Newton limit 65 / 64",
+            Forgery::Pivot => "one of n - 1 pivots n / n - 1",
+            Forgery::Total => "T limit + 1 / limit",
+            Forgery::Accepted => "A T - rejected + 1 / T - rejected",
+            Forgery::Rejected => "rejected T - A + 1 / T - A",
+            Forgery::EqualSteps => "equal steps A + 1 / A",
+            Forgery::Factorings => "factorings T + 1 / T",
+            Forgery::Jacobians => "Jacobians 3 + T / 2 + T",
+            Forgery::Derivatives => "derivatives 3 + mT + A / 2 + mT + A",
+            Forgery::Start => "start 2 / 1",
+            Forgery::NewtonCount => "Newton count m / m - 1",
+            Forgery::AcceptedMax => "A 2^64 - 1, rejected 1 /",
+            Forgery::RejectedMax => "rejected 2^64 - 1 /",
+            Forgery::OtherCount => "/ Newton count m, no Newton derivative awaited",
+            Forgery::LastPivot => "/ n-th pivot n",
+            Forgery::NotNumbers => "/ NaN",
+            Forgery::Nothing => "/ as it was",
+        })
     }
-    beyond(2 + m * total, p.steps.accepted)
 }

@@ -1,95 +1,125 @@
 // What was counted, and its lines: how often each forgery was tried, how often answered rightly, how many slices changed.
-ghost use Rattle.std.specs.Prelude.{◌<◌, ◌≤◌};
+ghost use Rattle.std.specs.Prelude.{◌≡◌, length};
 ghost use Rattle.edges.specs.Forgeries.{forgery_count};
 
-use crate::forge::FORGERIES;
-use crate::{forge, names, say};
-use std::num;
-use text::Place;
+use crate::forge::{Forgery, Side};
+use rules::types::Awaited;
+use std::fmt;
+use std::fmt::Write;
+use text::Page;
 
-// For each forgery and each of its sides: how often it was tried, how often answered rightly, how many slices changed.
-// Behind them, for each place at which a run waits: how often forgeries were tried there.
-pub(crate) const PLACES: usize = 6 * FORGERIES;
-
-pub(crate) const TALLY: usize = PLACES + forge::PLACES;
-
-pub(crate) fn note(tally: &mut [u64], at: usize, right: bool, changed: u64)
-    requires { at ≤ 200 }
-{
-    add(tally, at, 1);
-    add(tally, at + 1, once(right));
-    add(tally, at + 2, changed);
+// How often states were tried, how often answered rightly, and how many slices changed.
+#[derive(Clone, Copy, Default)]
+pub(crate) struct Count {
+    tried: u64,
+    right: u64,
+    changed: u64,
 }
 
-fn once(right: bool) -> u64 {
-    if right { 1 } else { 0 }
-}
+impl Count {
+    fn note(&mut self, right: bool, changed: u64) {
+        self.add(Count {
+            tried: 1,
+            right: u64::from(right),
+            changed,
+        });
+    }
 
-pub(crate) fn add(tally: &mut [u64], at: usize, more: u64) {
-    if at < tally.len() {
-        let sum = num::wrapping_add_u64(tally[at], more);
-        tally[at] = sum;
+    fn add(&mut self, more: Count) {
+        self.tried = self.tried.wrapping_add(more.tried);
+        self.right = self.right.wrapping_add(more.right);
+        self.changed = self.changed.wrapping_add(more.changed);
     }
 }
 
-fn of(tally: &[u64], at: usize) -> u64 {
-    if at < tally.len() {
-        return tally[at];
+// `7700 of 7700`: of so many that were tried, so many were answered rightly.
+impl fmt::Display for Count {
+    fn fmt<W: fmt::Write>(&self, f: &mut fmt::Formatter<W>) -> fmt::Result {
+        let right = self.right;
+        let tried = self.tried;
+        write!(f, "{right} of {tried}")
     }
-    0
 }
 
-// A line for each forgery, and one for all of them.
-pub(crate) fn counts(out: &mut [u8], place: Place, tally: &[u64]) -> Place {
-    let mut sums = [0u64; 6];
-    let mut p = place;
-    for k in 0..FORGERIES {
-        p = counted(out, p, tally, k);
-        total(&mut sums, tally, k);
+// A forgery's states beyond the bound, and those at it.
+#[derive(Clone, Copy, Default)]
+pub(crate) struct Sides {
+    damaged: Count,
+    whole: Count,
+}
+
+impl Sides {
+    pub(crate) fn note(&mut self, side: Side, right: bool, changed: u64) {
+        match side {
+            Side::Beyond => self.damaged.note(right, changed),
+            Side::At => self.whole.note(right, changed),
+        }
     }
-    let all = text::put_bytes(out, p, b"in all");
-    sides(out, all, &sums)
-}
 
-// How often forgeries were tried at each place, in the order in which `Awaited` lists them.
-pub(crate) fn places(out: &mut [u8], place: Place, tally: &[u64]) -> Place {
-    let mut p = text::put_bytes(out, place, b"answers by the place awaited:");
-    for i in 0..forge::PLACES {
-        p = say::count(out, p, b" ", of(tally, PLACES + i));
+    fn add(&mut self, more: &Sides) {
+        self.damaged.add(more.damaged);
+        self.whole.add(more.whole);
     }
-    text::put_bytes(out, p, b"\n")
 }
 
-fn counted(out: &mut [u8], place: Place, tally: &[u64], k: usize) -> Place
-    requires { k < forgery_count }
-{
-    let name = names::name(out, place, k);
-    let at = 6 * k;
-    let end = at + 6;
-    if end > tally.len() {
-        return name;
+// `damaged 7700 of 7700, whole 7700 of 7700, slices changed 0`.
+impl fmt::Display for Sides {
+    fn fmt<W: fmt::Write>(&self, f: &mut fmt::Formatter<W>) -> fmt::Result {
+        let damaged = self.damaged;
+        let whole = self.whole;
+        let changed = damaged.changed.wrapping_add(whole.changed);
+        write!(
+            f,
+            "damaged {damaged}, whole {whole}, slices changed {changed}"
+        )
     }
-    sides(out, name, &tally[at..end])
 }
 
-// `: damaged 7700 of 7700, whole 7700 of 7700, slices changed 0`.
-fn sides(out: &mut [u8], place: Place, t: &[u64]) -> Place {
-    let damaged = share(out, place, b": damaged ", of(t, 4), of(t, 3));
-    let whole = share(out, damaged, b", whole ", of(t, 1), of(t, 0));
-    let slices = num::wrapping_add_u64(of(t, 2), of(t, 5));
-    let changed = say::count(out, whole, b", slices changed ", slices);
-    text::put_bytes(out, changed, b"\n")
+const FORGERIES: usize = Forgery::ALL.len();
+
+// The places at which a run waits.
+const PLACES: usize = Awaited::Ended as usize + 1;
+
+// For each forgery its two sides; and for each place at which a run waits how often forgeries were tried there.
+#[derive(Drop)]
+pub(crate) struct Tally {
+    pub forgeries: [Sides; FORGERIES],
+    pub places: [u64; PLACES],
 }
 
-fn share(out: &mut [u8], place: Place, s: &[u8], right: u64, tried: u64) -> Place {
-    let p = say::count(out, place, s, right);
-    say::count(out, p, b" of ", tried)
-}
+impl Tally {
+    pub(crate) fn new() -> Tally
+        ensures { length result.forgeries ≡ forgery_count }
+    {
+        Tally {
+            forgeries: [Sides::default(); FORGERIES],
+            places: [0; PLACES],
+        }
+    }
 
-fn total(sums: &mut [u64], tally: &[u64], k: usize)
-    requires { k < forgery_count }
-{
-    for i in 0..6 {
-        add(sums, i, of(tally, 6 * k + i));
+    // That the forgeries were tried where a run waits.
+    pub(crate) fn note_place(&mut self, awaited: Awaited) {
+        if let Some(tried) = self.places.get_mut(awaited as usize) {
+            *tried = tried.wrapping_add(1);
+        }
+    }
+
+    // How often forgeries were tried at each place, in the order in which `Awaited` lists them.
+    pub(crate) fn show_places(&self, page: &mut Page) -> fmt::Result {
+        write!(page, "answers by the place awaited:")?;
+        for tried in self.places {
+            write!(page, " {tried}")?;
+        }
+        writeln!(page)
+    }
+
+    // A line for each forgery, and one for all of them.
+    pub(crate) fn show_forgeries(&self, page: &mut Page) -> fmt::Result {
+        let mut all = Sides::default();
+        for (forgery, sides) in Forgery::ALL.iter().zip(self.forgeries.iter()) {
+            writeln!(page, "{forgery}: {sides}")?;
+            all.add(sides);
+        }
+        writeln!(page, "in all: {all}")
     }
 }

@@ -15,6 +15,7 @@ pub fn some<R: Read>(from: &mut R, buf: &mut [u8]) -> usize
 }
 
 // Reads until the slice is full or the input ends: how many bytes of it now stand in front.
+// Stays a while loop: a turn goes on by as many bytes as its read gave, which no range or iterator yields; `read_exact` says little after an error.
 pub fn full<R: Read>(from: &mut R, buf: &mut [u8]) -> usize
     ensures within { result ≤ length buf.new }
     ensures next { Consumes (R.remaining from.old) (R.remaining from.new) (take result buf.new) }

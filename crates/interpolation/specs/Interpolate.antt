@@ -1,6 +1,6 @@
 -- `BDF::interpolate`: the step's polynomial at xi, in the Rust's order of operations.
 -- Component i of the coefficients has 7 numbers from i * 7 on: D[0], D[1] to D[5], and the mark of the order.
-use Rattle.std.specs.Prelude.{List, ◌||◌, ℕ, ◌+◌, ◌-◌, ◌*◌, ltb, eqb, Float, set, replicate, length}
+use Rattle.std.specs.Prelude.{Result, Ok, Err, List, ◌||◌, ℕ, ◌+◌, ◌-◌, ◌*◌, ltb, eqb, Float, set, replicate, length}
 use Rattle.std.specs.Float.Ieee
 use Rattle.std.specs.Float.{binary64}
 use Rattle.loops.specs.Choice.{when◌then◌else◌}
@@ -9,8 +9,8 @@ use Rattle.loops.specs.Cell.{at}
 use Rattle.loops.specs.Refusal.{Outcome, gives, refuses}
 use Rattle.loops.specs.Arithmetic.{◌⊕◌, ◌⊖◌, ◌⊗◌, ◌⊘◌, float, +0, one}
 use Rattle.matrix.specs.Size.{max_n}
-use Rattle.interpolation.specs.declared.polynomial.Interpolation.{Interpolation}
-use Rattle.interpolation.specs.declared.polynomial.Interpolation.TheVariants.{Interpolated, TooMany, WrongLength}
+use Rattle.interpolation.specs.declared.polynomial.InterpolationError.{InterpolationError}
+use Rattle.interpolation.specs.declared.polynomial.InterpolationError.TheVariants.{TooMany, WrongLength}
 
 -- ---- the order, from the first component's mark: `round().clamp(1.0, 5.0) as usize`, which is 0 for a NaN
 
@@ -70,10 +70,10 @@ evaluated cont p order yi = loop 0 (length yi) (λ i yi. set yi i (sum_at cont p
 -- ---- the whole: what is said, and what yi then holds
 
 -- the numbers of the refusals
-abbrev pub said_of : Interpolation → Outcome (Unit {0})
-said_of Interpolated = gives tt
-said_of TooMany = refuses 1
-said_of WrongLength = refuses 13
+abbrev pub said_of : Result (Unit {0}) InterpolationError → Outcome (Unit {0})
+said_of (Ok _) = gives tt
+said_of (Err TooMany) = refuses 1
+said_of (Err WrongLength) = refuses 13
 
 pub data Interpolates : Type 0 where
   says : Outcome (Unit {0}) → List Float → Interpolates

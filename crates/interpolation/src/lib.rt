@@ -3,4 +3,4 @@
 
 mod polynomial;
 
-pub use polynomial::{Interpolation, interpolate};
+pub use polynomial::{InterpolationError, interpolate};

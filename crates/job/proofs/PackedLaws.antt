@@ -20,17 +20,13 @@ use Rattle.job.specs.Packed.{head_length, head_bits, head_of, field, word_of, wo
 use Rattle.job.specs.Reading.{accepted_of, form_of, head_read, form_read}
 use Rattle.job.specs.Writing.{bit, head_for, words_in, joined, packed_of}
 use Rattle.job.specs.laws.FitLaws.{Fits}
-use Rattle.job.specs.laws.HeadLaws.{bit_small, bit_back, bit_again, bit_unset, head_fields, head_joined}
+use Rattle.job.specs.laws.HeadLaws.{bit_small, bit_back, bit_again, head_fields, head_joined}
 use Rattle.job.specs.laws.ReadingLaws.{refuses_nothing, words_long}
 use Rattle.job.specs.laws.JoinedLaws.{length_joined, words_add, word_joined, words_joined, joined_words, words_small, joined_small}
 
 head_number : (s : List ℕ) → head_bits s ≡ number s 0 5
 unfolding head_bits loop number
 head_number s = refl
-
-not_not : (b : Bool) → not (not b) ≡ b
-not_not true = refl
-not_not false = refl
 
 -- ---- read what was written
 
@@ -88,8 +84,8 @@ module _ (f : Form) (y0 a : List ℕ) (few : f.n ≤ max_n) (fits : Fits f (leng
   unfolding accepted_of
   accepts_packed =
       let long : length (packed_of f y0 a) ≡ length_for (field (head_for f) 34 6) = rw fields_packed.0 (length_packed f y0 a fits) in
-      let unused : (eqb (field (head_for f) 6 1) 0 || eqb (word_of (packed_of f y0 a) 2) 0) ≡ true =
-      rw (fields_packed.3, bit_unset f.automatic, word_packed 2 (omega arith)) fits.unused in
+      let unused : (not (not (eqb (field (head_for f) 6 1) 0)) || eqb (word_of (packed_of f y0 a) 2) 0) ≡ true =
+      rw (fields_packed.3, bit_again f.automatic, word_packed 2 (omega arith)) fits.unused in
       and_passes (eq-eqb _ _ long) (and_passes (eq-eqb _ _ fields_packed.4) unused)
 
   pub read_packed : form_read (packed_of f y0 a) ≡ gives f
@@ -108,10 +104,10 @@ packed_small f y0 a = below_append 256 (bytes_of head_length (head_for f)) (join
 -- ---- write what was read
 
 module _ (s : List ℕ) (bytes : Below 256 s) (w : ℕ) (is : w ≡ head_bits s) (enough : head_length ≤ length s) (accepts : accepted_of s (head_of w) ≡ true) where
-  accepts_read : (length s ≡ length_for (field w 34 6)) × (field w 0 6 ≡ 0) × ((eqb (field w 6 1) 0 || eqb (word_of s 2) 0) ≡ true)
+  accepts_read : (length s ≡ length_for (field w 34 6)) × (field w 0 6 ≡ 0) × ((not (not (eqb (field w 6 1) 0)) || eqb (word_of s 2) 0) ≡ true)
   unfolding accepted_of
   accepts_read =
-      let behind : (eqb (field w 0 6) 0 && (eqb (field w 6 1) 0 || eqb (word_of s 2) 0)) ≡ true = and_second (eqb (length s) (length_for (field w 34 6))) _ accepts in
+      let behind : (eqb (field w 0 6) 0 && (not (not (eqb (field w 6 1) 0)) || eqb (word_of s 2) 0)) ≡ true = and_second (eqb (length s) (length_for (field w 34 6))) _ accepts in
       (eqb-true _ _ (and_first _ _ accepts), eqb-true _ _ (and_first _ _ behind), and_second (eqb (field w 0 6) 0) _ behind)
 
   head_read_lem : head_for (form_of s (head_of w)) ≡ w
@@ -142,7 +138,7 @@ module _ (s : List ℕ) (bytes : Below 256 s) (w : ℕ) (is : w ≡ head_bits s)
         square = words_long s (5 + field w 34 6) (field w 34 6 * field w 34 6);
         steps = omega arith;
         newton = omega arith;
-        unused = rw (not_not (eqb (field w 6 1) 0)) accepts_read.2;
+        unused = accepts_read.2;
       }
 
   small_read : Below (2 ^ 64) (words_in (form_of s (head_of w)) (words_of s 5 (field w 34 6)) (words_of s (5 + field w 34 6) (field w 34 6 * field w 34 6)))

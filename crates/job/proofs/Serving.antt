@@ -1,19 +1,19 @@
 -- What holds of a form or a job that was read: it has at most as many components as are served, so that the arrays have room for them, and its
 -- file is as long as they make it. An edit of `head_read` is to be refused for what it says, so this stands here and not in specs/.
-use Rattle.std.specs.Prelude.{◌≡◌, refl, List, ℕ, ◌*◌, ◌≤◌, ltb, length, Float}
+use Rattle.std.specs.Prelude.{◌≡◌, refl, List, ℕ, ◌*◌, ◌≤◌, ltb, length, Float, Result, Ok}
 use Rattle.std.proofs.Common.{sym, ap, ◌∙◌, ltb-false}
 use Rattle.std.proofs.Math.Nat.{mul-le-mul}
 use Rattle.loops.specs.laws.ChoiceLaws.{either}
 use Rattle.loops.specs.Refusal.{Outcome, gives, refuses}
 use Rattle.job.specs.declared.packed.Head.{Head}
 use Rattle.job.specs.declared.form.Form.{Form}
-use Rattle.job.specs.declared.form.FormReading.{FormReading}
-use Rattle.job.specs.declared.form.FormReading.TheVariants.{Read}
+use Rattle.job.specs.declared.form.ReadError.{ReadError}
+use Rattle.job.specs.declared.form.ReadError.TheVariants.{TooManyComponents, NoJob}
 use Rattle.job.specs.declared.reader.Job.{Job}
 use Rattle.job.specs.Types.{max_n}
 use Rattle.job.specs.Packed.{head_length, head_bits, head_of, length_for}
-use Rattle.job.specs.Reading.{accepted_of, form_of, head_read, form_read, form_reading_of, job_of, placed, read_of}
-use Rattle.job.specs.laws.ReadingLaws.{refuses_nothing, accepted_length}
+use Rattle.job.specs.Reading.{read_number, read_refusal, accepted_of, form_of, head_read, form_read, form_reading_of, job_of, placed, read_of}
+use Rattle.job.specs.laws.ReadingLaws.{refuses_nothing, read_refused, accepted_length}
 
 -- ---- a form that was read
 
@@ -51,11 +51,41 @@ pub read_serves : (s : List ℕ) (y0 a : List Float) → (j : Job) → (read_of 
 unfolding read_of
 read_serves s y0 a = placed_serves s (form_read s) y0 a (form_serves s)
 
+-- ---- a file that was refused
+
+-- by the number of one of the two refusals
+abbrev KnownRefusal : Outcome Form → Type 0
+KnownRefusal r = (number : ℕ) → r ≡ refuses number → read_number (read_refusal number) ≡ number
+
+form_not_refused : (f : Form) → KnownRefusal (gives f)
+form_not_refused f number e = refuses_nothing (sym e)
+
+refusal_known : (why : ReadError) → KnownRefusal (refuses (read_number why))
+refusal_known why number e = let same : read_number why ≡ number = cc in rw (← same, read_refused why)
+
+head_refuses : (s : List ℕ) (h : Head) → KnownRefusal (head_read s h)
+unfolding head_read
+head_refuses s h =
+    either KnownRefusal (ltb max_n h.n) (λ _. refusal_known TooManyComponents)
+    (λ _. either KnownRefusal (accepted_of s h) (λ _. form_not_refused (form_of s h)) (λ _. refusal_known NoJob))
+
+form_refuses : (s : List ℕ) → KnownRefusal (form_read s)
+unfolding form_read
+form_refuses s = either KnownRefusal (ltb (length s) head_length) (λ _. refusal_known NoJob) (λ _. head_refuses s (head_of (head_bits s)))
+
+placed_refuses : (s : List ℕ) (r : Outcome Form) (y0 a : List Float) → KnownRefusal r → (number : ℕ) → (placed s r y0 a).0 ≡ refuses number → read_number (read_refusal number) ≡ number
+placed_refuses s (gives f) y0 a known number e = refuses_nothing (sym e)
+placed_refuses s (refuses k) y0 a known number e = let same : k ≡ number = cc in rw (← same) (known k refl)
+
+pub read_refuses : (s : List ℕ) (y0 a : List Float) → (number : ℕ) → (read_of s y0 a).0 ≡ refuses number → read_number (read_refusal number) ≡ number
+unfolding read_of
+read_refuses s y0 a = placed_refuses s (form_read s) y0 a (form_refuses s)
+
 -- ---- what a reader knows
 
-module _ (s : List ℕ) {r : FormReading} (is : form_reading_of r ≡ form_read s) where
-  pub served : (f : Form) → r ≡ Read f → Served s f
+module _ (s : List ℕ) {r : Result Form ReadError} (is : form_reading_of r ≡ form_read s) where
+  pub served : (f : Form) → r ≡ Ok f → Served s f
   served f e = form_serves s f (sym is ∙ ap form_reading_of e)
 
-  pub square : (f : Form) → r ≡ Read f → f.n * f.n ≤ max_n * max_n
+  pub square : (f : Form) → r ≡ Ok f → f.n * f.n ≤ max_n * max_n
   square f e = mul-le-mul (served f e).few (served f e).few

@@ -1,6 +1,6 @@
 -- A job as it is packed, field by field: a head of 40 bits, then 64-bit words, the most significant bit first throughout.
 -- Each field is a plain function of the bytes.
-use Rattle.std.specs.Prelude.{List, [], ◌∷◌, ◌++◌, map, ℕ, zero, suc, ◌+◌, ◌*◌, ◌/◌, ◌%◌, ◌^◌, Float}
+use Rattle.std.specs.Prelude.{not, eqb, List, [], ◌∷◌, ◌++◌, map, ℕ, zero, suc, ◌+◌, ◌*◌, ◌/◌, ◌%◌, ◌^◌, Float}
 use Rattle.std.specs.Float.{binary64}
 use Rattle.std.specs.Float.Ieee.{of_bits}
 use Rattle.loops.specs.Loop.{loop}
@@ -28,7 +28,7 @@ head_of bits =
       n = field bits 34 6;
       max_steps = field bits 14 20;
       newton_maxiter = field bits 7 7;
-      automatic = field bits 6 1;
+      automatic = not (eqb (field bits 6 1) 0);
       padding = field bits 0 6;
     }
 

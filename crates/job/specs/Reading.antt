@@ -1,24 +1,22 @@
 -- What a reader takes for a job file, and what it then reads: by the bits of its numbers, and by their values. It refuses by 17 and 1, in
 -- the order of docs/JOB-FORMAT.md; 5 to 8 are the beginning's.
-use Rattle.std.specs.Prelude.{Bool, ◌&&◌, ◌||◌, not, List, [], ◌++◌, ℕ, ◌+◌, ◌*◌, ltb, eqb, length, drop, Float}
+use Rattle.std.specs.Prelude.{Bool, ◌&&◌, ◌||◌, not, List, [], ◌++◌, ℕ, ◌+◌, ◌*◌, ltb, eqb, length, map, drop, Float, Option, None, Some, Result, Ok, Err}
 use Rattle.loops.specs.Choice.{when◌then◌else◌}
 use Rattle.loops.specs.Refusal.{Outcome, gives, refuses}
 use Rattle.rules.specs.Calls.{Configuration}
 use Rattle.job.specs.declared.packed.Head.{Head}
 use Rattle.job.specs.declared.form.Form.{Form}
-use Rattle.job.specs.declared.form.FormReading.{FormReading}
-use Rattle.job.specs.declared.form.FormReading.TheVariants as form
+use Rattle.job.specs.declared.form.ReadError.{ReadError}
+use Rattle.job.specs.declared.form.ReadError.TheVariants.{TooManyComponents, NoJob}
 use Rattle.job.specs.declared.reader.Job.{Job}
-use Rattle.job.specs.declared.reader.Reading.{Reading}
-use Rattle.job.specs.declared.reader.Reading.TheVariants.{Read, Refused}
-use Rattle.job.specs.Types.{Setting, Unset, Given, Scalar, BDF, defaults, max_n}
+use Rattle.job.specs.Types.{Scalar, BDF, defaults, max_n}
 use Rattle.job.specs.Packed.{head_length, head_bits, head_of, word_of, words_of, value_of, doubles_of, length_for}
 
 -- ---- what bytes say
 
 -- the length is that of n, no padding bit is set, and a first_step that is not used has only zero bits: -0 is not taken for 0
 unfoldable pub accepted_of : List ℕ → Head → Bool
-accepted_of s h = eqb (length s) (length_for h.n) && (eqb h.padding 0 && (eqb h.automatic 0 || eqb (word_of s 2) 0))
+accepted_of s h = eqb (length s) (length_for h.n) && (eqb h.padding 0 && (not h.automatic || eqb (word_of s 2) 0))
 
 unfoldable pub form_of : List ℕ → Head → Form
 form_of s h =
@@ -26,7 +24,7 @@ form_of s h =
       n = h.n;
       max_steps = h.max_steps;
       newton_maxiter = h.newton_maxiter;
-      automatic = not (eqb h.automatic 0);
+      automatic = h.automatic;
       x0 = word_of s 0;
       xend = word_of s 1;
       first_step = word_of s 2;
@@ -46,10 +44,19 @@ form_read s = when ltb (length s) head_length then refuses 17 else head_read s (
 
 -- ---- read by bits
 
+-- the number of each refusal
+abbrev pub read_number : ReadError → ℕ
+read_number TooManyComponents = 1
+read_number NoJob = 17
+
+-- the refusal by its number: 1, and else 17
+unfoldable pub read_refusal : ℕ → ReadError
+read_refusal number = when eqb number 1 then TooManyComponents else NoJob
+
 -- what each answer says: a form, or the number of the refusal
-abbrev pub form_reading_of : FormReading → Outcome Form
-form_reading_of (form.Read f) = gives f
-form_reading_of (form.Refused number) = refuses number
+abbrev pub form_reading_of : Result Form ReadError → Outcome Form
+form_reading_of (Ok f) = gives f
+form_reading_of (Err why) = refuses (read_number why)
 
 -- what a call comes to: its answer, then what the arrays for y0 and A hold
 abbrev pub FormOutcome : Type 0
@@ -65,18 +72,25 @@ form_placed s (refuses number) y0 a = (refuses number, y0, a)
 unfoldable pub read_form_of : List ℕ → List ℕ → List ℕ → FormOutcome
 read_form_of s y0 a = form_placed s (form_read s) y0 a
 
+-- the same where y0 and A hold what each word is read as
+abbrev pub placed_as : {A : Type 0} → (ℕ → A) → List ℕ → Outcome Form → List A → List A → Outcome Form × List A × List A
+placed_as of_word s (gives f) y0 a =
+    let n = f.n in
+    (gives f, map of_word (words_of s 5 n) ++ drop n y0, map of_word (words_of s (5 + n) (n * n)) ++ drop (n * n) a)
+placed_as of_word s (refuses number) y0 a = (refuses number, y0, a)
+
 -- ---- read by values
 
 -- what each answer says: a job, or the number of the refusal
-abbrev pub reading_of : Reading → Outcome Job
-reading_of (Read job) = gives job
-reading_of (Refused number) = refuses number
+abbrev pub reading_of : Result Job ReadError → Outcome Job
+reading_of (Ok job) = gives job
+reading_of (Err why) = refuses (read_number why)
 
 abbrev pub ReadOutcome : Type 0
 ReadOutcome = Outcome Job × List Float × List Float
 
-unfoldable pub first_step_of : Form → Setting
-first_step_of f = when f.automatic then Unset else Given (value_of f.first_step)
+unfoldable pub first_step_of : Form → Option Float
+first_step_of f = when f.automatic then None else Some (value_of f.first_step)
 
 -- the job that a form means
 unfoldable pub job_of : Form → Job

@@ -1,9 +1,10 @@
 -- The right side of a job, y' = A y: each sum from +0, upward by column, rounded after each product and each sum.
-use Rattle.std.specs.Prelude.{Bool, true, false, ◌&&◌, List, ℕ, ◌*◌, leb, eqb, length, set, Float}
+use Rattle.std.specs.Prelude.{Bool, ◌&&◌, Result, Ok, Err, List, ℕ, ◌*◌, leb, eqb, length, set, Float}
 use Rattle.loops.specs.Arithmetic.{◌⊕◌, ◌⊗◌, +0}
 use Rattle.loops.specs.Choice.{when◌then◌else◌}
 use Rattle.loops.specs.Loop.{loop}
 use Rattle.loops.specs.Cell.{at, cell}
+use Rattle.job.specs.declared.right.WrongLength.{WrongLength}
 use Rattle.job.specs.Types.{max_n}
 
 -- column c of row i
@@ -25,5 +26,5 @@ unfoldable pub sized_of : ℕ → ℕ → ℕ → Bool
 sized_of n cells places = leb n max_n && (eqb cells (n * n) && eqb places n)
 
 -- whether the sizes agree, and what dy then holds; where they do not, it stays
-unfoldable pub right_side_of : List Float → List Float → List Float → Bool × List Float
-right_side_of a y dy = when sized_of (length y) (length a) (length dy) then (true, right_of a y dy) else (false, dy)
+unfoldable pub right_side_of : List Float → List Float → List Float → Result Unit WrongLength × List Float
+right_side_of a y dy = when sized_of (length y) (length a) (length dy) then (Ok tt, right_of a y dy) else (Err (record {}), dy)

@@ -1,18 +1,19 @@
 -- What a writer accepts as a job, and the bytes that it then writes (02 §7). It refuses in the request's order: 1, 17, for n above 0
 -- the beginning's own 5 to 8, and 25 where the slice is short.
-use Rattle.std.specs.Prelude.{Bool, true, false, ◌&&◌, ◌||◌, not, List, [], ◌∷◌, ◌++◌, ℕ, ◌+◌, ◌*◌, ◌^◌, ltb, eqb, length, drop}
+use Rattle.std.specs.Prelude.{Bool, true, false, ◌&&◌, ◌||◌, not, List, [], ◌∷◌, ◌++◌, ℕ, ◌+◌, ◌*◌, ◌^◌, ltb, eqb, length, drop, Result, Ok, Err, ⊤}
 use Rattle.loops.specs.Arithmetic.{◌⊖◌}
 use Rattle.loops.specs.Choice.{when◌then◌else◌}
 use Rattle.loops.specs.Refusal.{Outcome, gives, refuses}
 use Rattle.number.specs.Helpers.{signum_of}
 use Rattle.text.specs.Words.{bytes_of}
+use Rattle.rules.specs.declared.types.Refusal.{Refusal}
 use Rattle.rules.specs.Refusals.{number_of}
 use Rattle.rules.specs.Checks.{tolerances_checked}
 use Rattle.job.specs.declared.form.Form.{Form}
 use Rattle.job.specs.declared.reader.Job.{Job}
-use Rattle.job.specs.declared.writer.Writing.{Writing}
-use Rattle.job.specs.declared.writer.Writing.TheVariants.{Written, Refused}
-use Rattle.job.specs.Types.{Scalar, Check, Refuse, Passed, max_n}
+use Rattle.job.specs.declared.writer.WriteError.{WriteError}
+use Rattle.job.specs.declared.writer.WriteError.TheVariants.{TooManyComponents, NoJob, NegativeTolerance, NoSteps, LimitTooLarge, ZeroFirstStep, SliceShort}
+use Rattle.job.specs.Types.{Scalar, max_n}
 use Rattle.job.specs.Packed.{head_length, length_for}
 use Rattle.job.specs.Reading.{job_of, settings_of}
 
@@ -48,15 +49,15 @@ fits_of f places cells =
 
 -- 5 to 8: the beginning's own checks of a job's numbers. (4 is among them, and cannot be: each tolerance is one number.) With no
 -- component a beginning ends at once
-unfoldable pub begins_of : Job → Check
+unfoldable pub begins_of : Job → Result ⊤ Refusal
 begins_of job =
-    when eqb job.n 0 then Passed
+    when eqb job.n 0 then Ok tt
     else tolerances_checked (settings_of job) job.n (signum_of (job.xend ⊖ job.x0)) (Scalar job.rtol) [] (Scalar job.atol) []
 
 -- what a check comes to: the length, or the number of the refusal
-abbrev pub begun_of : ℕ → Check → Outcome ℕ
-begun_of long Passed = gives long
-begun_of long (Refuse why) = refuses (number_of why)
+abbrev pub begun_of : ℕ → Result ⊤ Refusal → Outcome ℕ
+begun_of long (Ok tt) = gives long
+begun_of long (Err why) = refuses (number_of why)
 
 -- how many bytes the job has, or why it is none
 unfoldable pub judged_of : Form → ℕ → ℕ → Outcome ℕ
@@ -67,10 +68,20 @@ judged_of f places cells =
 
 -- ---- the whole
 
+-- the number of each refusal
+abbrev pub write_number : WriteError → ℕ
+write_number TooManyComponents = 1
+write_number NoJob = 17
+write_number NegativeTolerance = 5
+write_number NoSteps = 6
+write_number LimitTooLarge = 7
+write_number ZeroFirstStep = 8
+write_number SliceShort = 25
+
 -- what each answer says: how many bytes were written, or the number of the refusal
-abbrev pub writing_of : Writing → Outcome ℕ
-writing_of (Written count) = gives count
-writing_of (Refused number) = refuses number
+abbrev pub writing_of : Result ℕ WriteError → Outcome ℕ
+writing_of (Ok count) = gives count
+writing_of (Err why) = refuses (write_number why)
 
 -- what a call comes to: its answer, then what the slice holds
 abbrev pub WriteOutcome : Type 0

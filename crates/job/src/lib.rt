@@ -7,8 +7,8 @@ mod reader;
 mod right;
 mod writer;
 
-pub use form::{Form, FormReading, read_form};
+pub use form::{Form, ReadError, read_form};
 pub use packed::{CELLS, LONGEST};
-pub use reader::{Job, Reading, read, settings};
-pub use right::right_side;
-pub use writer::{Writing, write};
+pub use reader::{Job, read, settings};
+pub use right::{WrongLength, right_side};
+pub use writer::{WriteError, write};

@@ -1,11 +1,10 @@
 // A job as it is packed: a head of 40 bits, then 64-bit doubles, the most significant bit first throughout.
-ghost use Rattle.std.specs.Prelude.{◌≡◌, ◌+◌, ◌*◌, ◌≤◌, ◌++◌, length, drop};
+ghost use Rattle.std.specs.Prelude.{◌≡◌, ℕ, ◌+◌, ◌*◌, ◌≤◌, map, length};
 ghost use Rattle.text.specs.Words.{word_from};
 ghost use Rattle.job.specs.Types.{max_n};
-ghost use Rattle.job.specs.Packed.{head_length, head_bits, head_of, place, length_for, words_of, double_of, doubles_of};
+ghost use Rattle.job.specs.Packed.{head_length, head_bits, head_of, place, length_for, words_of, value_of};
 
 use matrix::MAX_N;
-use text::Word;
 
 // The most cells of a job's matrix.
 pub const CELLS: usize = MAX_N * MAX_N;
@@ -33,7 +32,7 @@ pub(crate) struct Head {
     pub n: usize,
     pub max_steps: usize,
     pub newton_maxiter: usize,
-    pub automatic: u64,
+    pub automatic: bool,
     pub padding: u64,
 }
 
@@ -42,17 +41,7 @@ fn head_bits(s: &[u8]) -> u64
     requires { head_length ≤ length s.now }
     ensures { result ≡ head_bits s.now }
 {
-    let mut w = 0;
-    for i in 0..HEAD {
-        w = w * 256 + wide(s[i]);
-    }
-    w
-}
-
-fn wide(b: u8) -> u64
-    ensures { result ≡ b }
-{
-    b as u64
+    u64::from_be_bytes([0, 0, 0, s[0], s[1], s[2], s[3], s[4]])
 }
 
 // 6 bits, 20, 7, 1 and 6: each is what is left above those behind it, without those before it.
@@ -65,7 +54,7 @@ pub(crate) fn head_of(s: &[u8]) -> Head
         n: (w / 0x4_0000_0000 % 0x40) as usize,
         max_steps: (w / 0x4000 % 0x10_0000) as usize,
         newton_maxiter: (w / 0x80 % 0x80) as usize,
-        automatic: w / 0x40 % 2,
+        automatic: w / 0x40 % 2 != 0,
         padding: w % 0x40,
     }
 }
@@ -75,36 +64,39 @@ pub(crate) fn word(s: &[u8], i: usize) -> u64
     requires { place (i + 1) ≤ length s.now }
     ensures { result ≡ word_from s.now (place i) }
 {
-    match text::word_at(s, HEAD + 8 * i) {
-        Word::Is(w) => w,
-        Word::Short => 0,
+    text::word_at(s, HEAD + 8 * i).unwrap()
+}
+
+// What a number of a job is read as: its word, or the double whose bits the word has.
+pub(crate) trait OfWord: Copy {
+    ghost of_word: { ℕ → Self };
+
+    fn of_word(w: u64) -> Self
+        ensures { result ≡ of_word w };
+}
+
+impl OfWord for u64 {
+    ghost of_word = { λ w. w };
+
+    fn of_word(w: u64) -> u64 {
+        w
     }
 }
 
-// The i-th double.
-fn double(s: &[u8], i: usize) -> f64
-    requires { place (i + 1) ≤ length s.now }
-    ensures { result ≡ double_of s.now i }
-{
-    text::double(word(s, i))
-}
+impl OfWord for f64 {
+    ghost of_word = { value_of };
 
-// The first `count` places of `to` take the doubles from the i-th on.
-pub(crate) fn doubles(s: &[u8], i: usize, count: usize, to: &mut [f64])
-    requires { (place (i + count) ≤ length s.now) × (count ≤ length to.old) }
-    ensures { to.new ≡ doubles_of s.now i count ++ drop count to.old }
-{
-    for k in 0..count {
-        to[k] = double(s, i + k);
+    fn of_word(w: u64) -> f64 {
+        text::double(w)
     }
 }
 
-// The first `count` places of `to` take the words from the i-th on.
-pub(crate) fn words(s: &[u8], i: usize, count: usize, to: &mut [u64])
-    requires { (place (i + count) ≤ length s.now) × (count ≤ length to.old) }
-    ensures { to.new ≡ words_of s.now i count ++ drop count to.old }
+// The places of `to` take the numbers from the i-th on.
+pub(crate) fn load<T: OfWord>(s: &[u8], i: usize, to: &mut [T])
+    requires { place (i + length to.old) ≤ length s.now }
+    ensures { to.new ≡ map T.of_word (words_of s.now i (length to.old)) }
 {
-    for k in 0..count {
-        to[k] = word(s, i + k);
+    for (k, number) in to.iter_mut().enumerate() {
+        *number = T::of_word(word(s, i + k));
     }
 }

@@ -5,35 +5,33 @@ ghost use Rattle.job.specs.Right.{sized_of, row_sum, right_of, right_side_of};
 
 use matrix::MAX_N;
 
-// Writes A y to dy, with n the length of y. False where n is above MAX_N, A not n² long or dy not n: then nothing is written.
-pub fn right_side(a: &[f64], y: &[f64], dy: &mut [f64]) -> bool
+// More components than MAX_N, or lengths that do not fit one another.
+#[derive(Clone, Copy, Debug, PartialEq, Eq)]
+pub struct WrongLength;
+
+// Writes A y to dy, with n the length of y. An error where n is above MAX_N, A not n² long or dy not n: then nothing is written.
+pub fn right_side(a: &[f64], y: &[f64], dy: &mut [f64]) -> Result<(), WrongLength>
     ensures { (result, dy.new) ≡ right_side_of a.now y.now dy.old }
 {
     if !sized(y.len(), a.len(), dy.len()) {
-        return false;
+        return Err(WrongLength);
     }
     rows(a, y, dy);
-    true
+    Ok(())
 }
 
 fn sized(n: usize, cells: usize, places: usize) -> bool
     ensures { result ≡ sized_of n cells places }
 {
-    if MAX_N < n {
-        return false;
-    }
-    if cells != n * n {
-        return false;
-    }
-    places == n
+    n <= MAX_N && cells == n * n && places == n
 }
 
 fn rows(a: &[f64], y: &[f64], dy: &mut [f64])
     requires { (length y.now ≤ max_n) × ((length a.now ≡ length y.now * length y.now) × (length dy.old ≡ length y.now)) }
     ensures { dy.new ≡ right_of a.now y.now dy.old }
 {
-    for i in 0..y.len() {
-        dy[i] = row_sum(a, y, i);
+    for (i, slope) in dy.iter_mut().enumerate() {
+        *slope = row_sum(a, y, i);
     }
 }
 
@@ -44,8 +42,8 @@ fn row_sum(a: &[f64], y: &[f64], i: usize) -> f64
 {
     let n = y.len();
     let mut sum = 0.0;
-    for c in 0..n {
-        sum = sum + a[i * n + c] * y[c];
+    for (c, value) in y.iter().enumerate() {
+        sum += a[i * n + c] * *value;
     }
     sum
 }

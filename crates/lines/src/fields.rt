@@ -1,84 +1,101 @@
 // The lines, put field by field: a letter, each field after a space, the line's end.
-ghost use Rattle.std.specs.Prelude.{◌≡◌, [], ◌∷◌};
+ghost use Rattle.std.specs.Prelude.{◌≡◌, List, [], ◌∷◌, ℕ, map};
 ghost use Rattle.text.specs.Digits.{decimal, hexadecimal};
+ghost use Rattle.text.specs.Page.{puts, seen, SamePage};
 ghost use Rattle.lines.specs.Lines.{hexes, status_fields, end_fields};
 ghost use Rattle.lines.specs.Fields.{puts_fields, puts_line};
 
 use crate::numbers;
 use rules::types::{Evals, Status, Steps};
-use text::Place;
+use text::Page;
 
-pub(crate) fn state(out: &mut [u8], place: Place, letter: u8, x: f64, y: &[f64]) -> Place
-    ensures { (result, out.new) ≡ puts_line letter (hexes (x ∷ y.now)) (place, out.old) }
+pub(crate) fn state(page: &mut Page, letter: u8, x: f64, y: &[f64])
+    ensures put { seen page.new ≡ puts_line letter (hexes (x ∷ y.now)) (seen page.old) }
+    ensures same { SamePage page.old page.new }
 {
-    let l = text::put_byte(out, place, letter);
-    let at = double(out, l, x);
-    let end = doubles(out, at, y);
-    text::put_byte(out, end, b'\n')
+    page.put_byte(letter);
+    field(page, x);
+    fields(page, y);
+    page.put_byte(b'\n');
 }
 
-pub(crate) fn end(
-    out: &mut [u8],
-    place: Place,
-    status: Status,
-    h: f64,
-    steps: Steps,
-    evals: Evals,
-) -> Place
-    ensures { (result, out.new) ≡ puts_line 69 (end_fields status h steps evals) (place, out.old) }
+pub(crate) fn end(page: &mut Page, status: Status, h: f64, steps: Steps, evals: Evals)
+    ensures put { seen page.new ≡ puts_line 69 (end_fields status h steps evals) (seen page.old) }
+    ensures same { SamePage page.old page.new }
 {
-    let e = text::put_byte(out, place, b'E');
-    let how = ended(out, e, status, h);
-    let done = counted(out, how, steps.total, steps.accepted, steps.rejected);
-    let asked = counted(out, done, evals.ode, evals.jac, evals.lu);
-    let started = count(out, asked, evals.start as u64);
-    text::put_byte(out, started, b'\n')
+    page.put_byte(b'E');
+    ended(page, status, h);
+    let Steps {
+        total,
+        accepted,
+        rejected,
+    } = steps;
+    fields(page, &[total as u64, accepted as u64, rejected as u64]);
+    let Evals {
+        ode,
+        jac,
+        lu,
+        start,
+    } = evals;
+    fields(page, &[ode as u64, jac as u64, lu as u64, start as u64]);
+    page.put_byte(b'\n');
 }
 
-pub(crate) fn refusal(out: &mut [u8], place: Place, number: u64) -> Place
-    ensures { (result, out.new) ≡ puts_line 82 (decimal number ∷ []) (place, out.old) }
+pub(crate) fn refusal(page: &mut Page, number: u64)
+    ensures put { seen page.new ≡ puts_line 82 (decimal number ∷ []) (seen page.old) }
+    ensures same { SamePage page.old page.new }
 {
-    let l = text::put_byte(out, place, b'R');
-    let end = count(out, l, number);
-    text::put_byte(out, end, b'\n')
+    page.put_byte(b'R');
+    field(page, number);
+    page.put_byte(b'\n');
 }
 
-fn ended(out: &mut [u8], place: Place, status: Status, h: f64) -> Place
-    ensures { (result, out.new) ≡ puts_fields (status_fields status h) (place, out.old) }
+fn ended(page: &mut Page, status: Status, h: f64)
+    ensures put { seen page.new ≡ puts_fields (status_fields status h) (seen page.old) }
+    ensures same { SamePage page.old page.new }
 {
-    let at = count(out, place, numbers::status(status));
-    double(out, at, h)
+    field(page, numbers::status(status));
+    field(page, h);
 }
 
-// Three counters.
-fn counted(out: &mut [u8], place: Place, a: usize, b: usize, c: usize) -> Place
-    ensures { (result, out.new) ≡ puts_fields (decimal a ∷ decimal b ∷ decimal c ∷ []) (place, out.old) }
-{
-    let first = count(out, place, a as u64);
-    let second = count(out, first, b as u64);
-    count(out, second, c as u64)
+// What a field may hold.
+trait Value: Copy {
+    ghost text: { Self → List ℕ };
+
+    fn put(self, page: &mut Page)
+        ensures put { seen page.new ≡ puts (text self) (seen page.old) }
+        ensures same { SamePage page.old page.new };
 }
 
-fn count(out: &mut [u8], place: Place, n: u64) -> Place
-    ensures { (result, out.new) ≡ puts_fields (decimal n ∷ []) (place, out.old) }
-{
-    let at = text::put_byte(out, place, b' ');
-    text::put_count(out, at, n)
-}
+impl Value for u64 {
+    ghost text = { decimal };
 
-fn double(out: &mut [u8], place: Place, x: f64) -> Place
-    ensures { (result, out.new) ≡ puts_fields (hexadecimal x ∷ []) (place, out.old) }
-{
-    let at = text::put_byte(out, place, b' ');
-    text::put_double(out, at, x)
-}
-
-fn doubles(out: &mut [u8], place: Place, xs: &[f64]) -> Place
-    ensures { (result, out.new) ≡ puts_fields (hexes xs.now) (place, out.old) }
-{
-    let mut at = place;
-    for i in 0..xs.len() {
-        at = double(out, at, xs[i]);
+    fn put(self, page: &mut Page) {
+        page.put_count(self);
     }
-    at
+}
+
+impl Value for f64 {
+    ghost text = { hexadecimal };
+
+    fn put(self, page: &mut Page) {
+        page.put_double(self);
+    }
+}
+
+fn field<F: Value>(page: &mut Page, x: F)
+    ensures put { seen page.new ≡ puts_fields (F.text x ∷ []) (seen page.old) }
+    ensures same { SamePage page.old page.new }
+{
+    page.put_byte(b' ');
+    x.put(page);
+}
+
+fn fields<F: Value>(page: &mut Page, xs: &[F])
+    ensures put { seen page.new ≡ puts_fields (map F.text xs.now) (seen page.old) }
+    ensures same { SamePage page.old page.new }
+{
+    for x in xs {
+        field(page, *x);
+    }
 }

@@ -1,101 +1,70 @@
 // The lines that a job's run prints. Each is put on the page whole, or not begun where the page has no room for it.
-ghost use Rattle.std.specs.Prelude.{◌≡◌, ◌∷◌, ◌+◌, ◌*◌, ◌≤◌};
+ghost use Rattle.std.specs.Prelude.{◌≡◌, ◌∷◌, ◌+◌, ◌*◌, ◌-◌, ◌^◌, ◌≤◌, min};
 ghost use Rattle.text.specs.Digits.{places_of};
-ghost use Rattle.text.specs.Page.{puts};
+ghost use Rattle.text.specs.Page.{puts, seen, SamePage};
 ghost use Rattle.lines.specs.Lines.{line, hexes, start_line, step_line, end_line, refusal_line};
-ghost use Rattle.lines.specs.Fields.{room_for};
 
 use crate::fields;
 use rules::types::{Evals, Status, Steps};
-use text::Place;
+use text::Page;
 
 // `I`: x and y at the start.
-pub fn start_line(out: &mut [u8], place: Place, x: f64, y: &[f64]) -> Place
-    ensures { (result, out.new) ≡ puts (start_line x y.now) (place, out.old) }
+pub fn start_line(page: &mut Page, x: f64, y: &[f64])
+    ensures put { seen page.new ≡ puts (start_line x y.now) (seen page.old) }
+    ensures same { SamePage page.old page.new }
 {
-    state_line(out, place, b'I', x, y)
+    state_line(page, b'I', x, y);
 }
 
 // `S`: the new x of a step, and y there.
-pub fn step_line(out: &mut [u8], place: Place, x: f64, y: &[f64]) -> Place
-    ensures { (result, out.new) ≡ puts (step_line x y.now) (place, out.old) }
+pub fn step_line(page: &mut Page, x: f64, y: &[f64])
+    ensures put { seen page.new ≡ puts (step_line x y.now) (seen page.old) }
+    ensures same { SamePage page.old page.new }
 {
-    state_line(out, place, b'S', x, y)
+    state_line(page, b'S', x, y);
 }
 
-fn state_line(out: &mut [u8], place: Place, letter: u8, x: f64, y: &[f64]) -> Place
-    ensures { (result, out.new) ≡ puts (line letter (hexes (x ∷ y.now))) (place, out.old) }
+fn state_line(page: &mut Page, letter: u8, x: f64, y: &[f64])
+    ensures put { seen page.new ≡ puts (line letter (hexes (x ∷ y.now))) (seen page.old) }
+    ensures same { SamePage page.old page.new }
 {
-    if has_room_for_state(place, out.len(), y.len()) {
-        return fields::state(out, place, letter, x, y);
+    if page.has_room(state_length(y.len())) {
+        fields::state(page, letter, x, y);
+    } else {
+        page.close();
     }
-    Place::Full
 }
 
 // `E`: how the run ended, its last h, and its counters.
-pub fn end_line(
-    out: &mut [u8],
-    place: Place,
-    status: Status,
-    h: f64,
-    steps: Steps,
-    evals: Evals,
-) -> Place
-    ensures { (result, out.new) ≡ puts (end_line status h steps evals) (place, out.old) }
+pub fn end_line(page: &mut Page, status: Status, h: f64, steps: Steps, evals: Evals)
+    ensures put { seen page.new ≡ puts (end_line status h steps evals) (seen page.old) }
+    ensures same { SamePage page.old page.new }
 {
-    if has_room(place, out.len(), end_length(steps, evals)) {
-        return fields::end(out, place, status, h, steps, evals);
+    if page.has_room(end_length(steps, evals)) {
+        fields::end(page, status, h, steps, evals);
+    } else {
+        page.close();
     }
-    Place::Full
 }
 
 // `R`: the number of a refusal.
-pub fn refusal_line(out: &mut [u8], place: Place, number: u64) -> Place
-    ensures { (result, out.new) ≡ puts (refusal_line number) (place, out.old) }
+pub fn refusal_line(page: &mut Page, number: u64)
+    ensures put { seen page.new ≡ puts (refusal_line number) (seen page.old) }
+    ensures same { SamePage page.old page.new }
 {
-    if has_room(place, out.len(), 3 + places(number)) {
-        return fields::refusal(out, place, number);
-    }
-    Place::Full
-}
-
-// Whether k bytes more lie within len; no sum can wrap here, whatever the place is.
-fn has_room(place: Place, len: usize, k: usize) -> bool
-    ensures { result ≡ room_for k place len }
-{
-    match place {
-        Place::At(at) => {
-            if len < at {
-                return false;
-            }
-            if len - at < k {
-                return false;
-            }
-            true
-        }
-        Place::Full => false,
+    if page.has_room(3 + places(number)) {
+        fields::refusal(page, number);
+    } else {
+        page.close();
     }
 }
 
-// The same for a letter, x, n values of y and the line's end: 17 bytes for each double with the space before it.
-fn has_room_for_state(place: Place, len: usize, n: usize) -> bool
-    ensures { result ≡ room_for (19 + 17 * n) place len }
+// A letter, x, n values of y and the line's end: 17 bytes for each double with the space before it. No page is as long as the
+// greatest number, which stands for all above it.
+fn state_length(n: usize) -> usize
+    ensures { result ≡ min (19 + 17 * n) (2 ^ 64 - 1) }
 {
-    match place {
-        Place::At(at) => {
-            if len < at {
-                return false;
-            }
-            if len - at < 19 {
-                return false;
-            }
-            if (len - at - 19) / 17 < n {
-                return false;
-            }
-            true
-        }
-        Place::Full => false,
-    }
+    n.saturating_mul(17).saturating_add(19)
 }
 
 // Letter, status, h and the line's end are 21 bytes; then the seven counters.
@@ -114,6 +83,7 @@ fn three(a: usize, b: usize, c: usize) -> usize
     3 + places(a as u64) + places(b as u64) + places(c as u64)
 }
 
+#[tactic(auto, using(text::specs::laws::DigitLaws::places_at_most_20))]
 fn places(n: u64) -> usize
     ensures { (result ≡ places_of n) × (result ≤ 20) }
 {

@@ -6,6 +6,8 @@ ghost use Rattle.lines.specs.Lines.{status_of};
 use rules::types::{Refusal, Status};
 
 // The number of a refusal by the solver, as docs/RULES.md has it.
+// Stays a match: a refusal may hold values, so it has no number by `as`, and its type is another crate's, so `From` for it is not ours to write.
+#[tactic(auto, unfolding(rules::specs::Refusals::number_of))]
 pub fn number_of(why: Refusal) -> u64
     ensures { result ≡ number_of why }
 {
@@ -32,6 +34,7 @@ pub fn number_of(why: Refusal) -> u64
     }
 }
 
+// Stays a match: `as u64` would take the number from the order in which another crate lists the cases.
 pub(crate) fn status(s: Status) -> u64
     ensures { result ≡ status_of s }
 {

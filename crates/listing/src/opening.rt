@@ -6,11 +6,11 @@ ghost use Rattle.rules.specs.Calls.{beginning};
 ghost use Rattle.job.specs.Reading.{configuration_of};
 ghost use Rattle.listing.specs.Pages.{due_of, begun_with, refused_of, opened};
 
-use crate::replies::{copy, waits};
+use crate::replies::waits;
 use bdf::begin;
 use bdf::settings::BDF;
 use bdf::types::{Answer, Run, Tolerance, Turn};
-use job::{CELLS, Job, Reading};
+use job::{CELLS, Job, ReadError};
 use matrix::MAX_N;
 
 // What the solver wants of slices for MAX_N components: 2n² + 33n numbers, and 8n.
@@ -23,8 +23,8 @@ pub const QUESTION: usize = 8 * MAX_N;
 pub enum Said {
     // By the solver. A question has no line.
     Told(Answer),
-    // The file is no job: it is refused by this number, and nothing was begun.
-    NoJob(u64),
+    // The file is no job, and nothing was begun.
+    NoJob(ReadError),
     // Every line was given.
     Over,
 }
@@ -49,8 +49,8 @@ pub fn open(
     let mut y0 = [0.0f64; MAX_N];
     let mut cells = [0.0f64; CELLS];
     match job::read(file, &mut y0, &mut cells) {
-        Reading::Read(j) => begun(j, &y0, &cells, a, ws, q),
-        Reading::Refused(number) => refused(number),
+        Ok(j) => begun(j, &y0, &cells, a, ws, q),
+        Err(why) => refused(why),
     }
 }
 
@@ -94,11 +94,9 @@ fn fitted(
         ws,
         q,
     );
-    let answer = turn.answer;
-    if !waits(answer) {
-        return due(turn);
+    if waits(turn.answer) {
+        a.copy_from_slice(cells);
     }
-    copy(cells, a);
     due(turn)
 }
 
@@ -106,20 +104,16 @@ fn fitted(
 pub(crate) fn due(turn: Turn) -> Listing
     ensures { result ≡ due_of turn }
 {
-    let answer = turn.answer;
-    let run = turn.run;
     Listing {
-        said: Said::Told(answer),
-        run,
+        said: Said::Told(turn.answer),
+        run: turn.run,
     }
 }
 
 // A file that is refused has no run: its state is that of a run with nothing to do, which has ended.
-fn refused(number: u64) -> Listing
-    ensures { result ≡ refused_of number }
+fn refused(why: ReadError) -> Listing
+    ensures { result ≡ refused_of why }
 {
-    let mut ws = [0.0f64; 0];
-    let mut q = [0.0f64; 0];
     let turn = begin(
         BDF::new(),
         0.0,
@@ -129,12 +123,11 @@ fn refused(number: u64) -> Listing
         &[],
         Tolerance::Scalar(0.0),
         &[],
-        &mut ws,
-        &mut q,
+        &mut [],
+        &mut [],
     );
-    let run = turn.run;
     Listing {
-        said: Said::NoJob(number),
-        run,
+        said: Said::NoJob(why),
+        run: turn.run,
     }
 }

@@ -1,20 +1,20 @@
 // A listing, page by page: each call fills the lent page with as many whole lines as it has room for.
-ghost use Rattle.std.specs.Prelude.{◌≡◌, ◌*◌, ◌≤◌, length};
+ghost use Rattle.std.specs.Prelude.{◌≡◌, ◌*◌, ◌≤◌, length, Some};
 ghost use Rattle.matrix.specs.Size.{max_n};
-ghost use Rattle.text.specs.declared.page.Place.TheVariants.{At};
 ghost use Rattle.text.specs.Page.{puts};
 ghost use Rattle.lines.specs.Lines.{refusal_line};
 ghost use Rattle.rules.specs.State.{after};
+ghost use Rattle.job.specs.Reading.{read_number};
 ghost use Rattle.listing.specs.declared.pages.Stop.TheVariants.{Not};
-ghost use Rattle.listing.specs.Pages.{over_of, page_of, goes_on, enough, sheet_of, given_of, refused_at, paged_of, next_page};
+ghost use Rattle.listing.specs.Pages.{over_of, page_of, enough, sheet_of, given_of, refused_at, paged_of, next_page};
 ghost use Rattle.listing.specs.Pages.{onward as onward_of, answered as answered_of, filled as filled_of};
 
 use crate::answer::answer_line;
 use crate::opening::{Listing, QUESTION, Said, WORKSPACE, due};
 use crate::replies::{replied, waits};
 use bdf::types::{Run, Turn};
-use job::CELLS;
-use text::Place;
+use job::{CELLS, ReadError};
+use matrix::MAX_N;
 
 // A page that was given: its text stands in the first `length` bytes of what was lent for it.
 #[derive(Clone, Copy)]
@@ -52,11 +52,10 @@ pub fn next_page(
 ) -> Page
     ensures { (after result ws.new q.new, out.new) ≡ next_page a.now (after l ws.old q.old) out.old }
 {
-    let said = l.said;
-    let run = l.run;
+    let Listing { said, run } = l;
     match said {
         Said::Told(answer) => paged(Turn { answer, run }, a, ws, q, out),
-        Said::NoJob(number) => refused(number, run, out),
+        Said::NoJob(why) => refused(why, run, out),
         Said::Over => page_of(over(run), 0),
     }
 }
@@ -77,13 +76,15 @@ fn over(run: Run) -> Listing
 }
 
 // The line of a file's refusal.
-fn refused(number: u64, run: Run, out: &mut [u8]) -> Page
-    ensures { (result, out.new) ≡ refused_at number run (puts (refusal_line number) (At 0, out.old)) }
+fn refused(why: ReadError, run: Run, out: &mut [u8]) -> Page
+    ensures { (result, out.new) ≡ refused_at why run (puts (refusal_line (read_number why)) (Some 0, out.old)) }
 {
-    match lines::refusal_line(out, Place::At(0), number) {
-        Place::At(length) => page_of(over(run), length),
-        Place::Full => {
-            let said = Said::NoJob(number);
+    let mut page = text::Page::new(out);
+    lines::refusal_line(&mut page, why.number());
+    match page.place() {
+        Some(length) => page_of(over(run), length),
+        None => {
+            let said = Said::NoJob(why);
             page_of(Listing { said, run }, 0)
         }
     }
@@ -107,80 +108,59 @@ fn filled(turn: Turn, a: &[f64], ws: &mut [f64], q: &mut [f64], out: &mut [u8]) 
     requires { (length a.now ≡ max_n * max_n) × (length q.old ≡ 8 * max_n) }
     ensures { (after result ws.new q.new, out.new) ≡ filled_of enough a.now (sheet_of (after turn ws.old q.old) 0 Not, out.old) }
 {
-    let mut values = [0.0f64; CELLS];
+    let mut slope = [0.0f64; MAX_N];
     let mut s = Sheet {
         turn,
         length: 0,
         stop: Stop::Not,
     };
-    let mut left = ENOUGH;
-    while left > 0 && goes_on(s) {
-        s = answered(s, a, &mut values, ws, q, out);
-        left -= 1;
+    for _ in 0..ENOUGH {
+        match s.stop {
+            Stop::Not => answered(&mut s, a, &mut slope, ws, q, out),
+            Stop::NoRoom | Stop::AtEnd => break,
+        }
     }
     s
 }
 
-fn goes_on(s: Sheet) -> bool
-    ensures { result ≡ goes_on s.stop }
-{
-    let stop = s.stop;
-    match stop {
-        Stop::Not => true,
-        Stop::NoRoom => false,
-        Stop::AtEnd => false,
-    }
-}
-
 // The line of the last answer, and the reply to it. Where the line has no room nothing is replied.
 fn answered(
-    s: Sheet,
+    s: &mut Sheet,
     a: &[f64],
-    values: &mut [f64],
+    slope: &mut [f64; MAX_N],
     ws: &mut [f64],
     q: &mut [f64],
     out: &mut [u8],
-) -> Sheet
-    requires { (s.length ≤ length out.old) × ((length a.now ≡ max_n * max_n) × ((length values.old ≡ max_n * max_n) × (length q.old ≡ 8 * max_n))) }
-    ensures { (after result ws.new q.new, out.new) ≡ answered_of a.now (after s ws.old q.old, out.old) }
+)
+    requires { (s.old.length ≤ length out.old) × ((length a.now ≡ max_n * max_n) × (length q.old ≡ 8 * max_n)) }
+    ensures { (after s.new ws.new q.new, out.new) ≡ answered_of a.now (after s.old ws.old q.old, out.old) }
 {
-    let turn = s.turn;
-    let length = s.length;
-    match answer_line(out, length, turn, q) {
-        Place::At(next) => onward(turn, next, a, values, ws, q),
-        Place::Full => Sheet {
-            turn,
-            length,
-            stop: Stop::NoRoom,
-        },
+    let mut page = text::Page::at(out, s.length);
+    answer_line(&mut page, &s.turn, q);
+    match page.place() {
+        Some(next) => onward(s, next, a, slope, ws, q),
+        None => s.stop = Stop::NoRoom,
     }
 }
 
 // Past the line of an answer: the reply to it, or the listing's end.
 fn onward(
-    turn: Turn,
+    s: &mut Sheet,
     next: usize,
     a: &[f64],
-    values: &mut [f64],
+    slope: &mut [f64; MAX_N],
     ws: &mut [f64],
     q: &mut [f64],
-) -> Sheet
-    requires { (length a.now ≡ max_n * max_n) × ((length values.old ≡ max_n * max_n) × (length q.old ≡ 8 * max_n)) }
-    ensures { after result ws.new q.new ≡ onward_of a.now (after turn ws.old q.old) next }
+)
+    requires { (length a.now ≡ max_n * max_n) × (length q.old ≡ 8 * max_n) }
+    ensures { after s.new ws.new q.new ≡ onward_of a.now (after s.old.turn ws.old q.old) next }
 {
-    let answer = turn.answer;
-    if !waits(answer) {
-        return Sheet {
-            turn,
-            length: next,
-            stop: Stop::AtEnd,
-        };
-    }
-    let said = replied(turn, a, values, ws, q);
-    Sheet {
-        turn: said,
-        length: next,
-        stop: Stop::Not,
+    s.length = next;
+    if waits(s.turn.answer) {
+        replied(&mut s.turn, a, slope, ws, q);
+        s.stop = Stop::Not;
+    } else {
+        s.stop = Stop::AtEnd;
     }
 }
 
@@ -188,15 +168,9 @@ fn onward(
 fn given(s: Sheet) -> Page
     ensures { result ≡ given_of s }
 {
-    let turn = s.turn;
-    let length = s.length;
-    let stop = s.stop;
+    let Sheet { turn, length, stop } = s;
     match stop {
-        Stop::Not => page_of(due(turn), length),
-        Stop::NoRoom => page_of(due(turn), length),
-        Stop::AtEnd => {
-            let run = turn.run;
-            page_of(over(run), length)
-        }
+        Stop::Not | Stop::NoRoom => page_of(due(turn), length),
+        Stop::AtEnd => page_of(over(turn.run), length),
     }
 }

@@ -6,4 +6,5 @@ mod Writes
 mod Commuting
 mod Rows
 mod Zeros
+mod Columns
 pub mod laws

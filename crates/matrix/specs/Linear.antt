@@ -1,14 +1,14 @@
 -- Solving A x = b with the factors and the pivots of `lu_decomp`, in the order of the Rust's `lin_solve` (matrix/linear.rs).
 -- The Rust's own case n = 1 is its last line alone, since both loops are then empty; so is the definition's.
-use Rattle.std.specs.Prelude.{List, Bool, true, ◌&&◌, ℕ, ◌+◌, ◌-◌, ◌<◌, length, get_or, set, ltb, eqb, Float}
+use Rattle.std.specs.Prelude.{Result, Ok, Err, List, Bool, true, ◌&&◌, ℕ, ◌+◌, ◌-◌, ◌<◌, length, get_or, set, ltb, eqb, Float}
 use Rattle.std.specs.Float.Ieee
 use Rattle.loops.specs.Choice.{when◌then◌else◌}
 use Rattle.loops.specs.Loop.{loop}
 use Rattle.loops.specs.Cell.{at, cell}
 use Rattle.loops.specs.Refusal.{Outcome, gives, refuses}
 use Rattle.loops.specs.Arithmetic.{◌⊕◌, ◌⊗◌, ◌⊘◌}
-use Rattle.matrix.specs.declared.linear.Solution.{Solution}
-use Rattle.matrix.specs.declared.linear.Solution.TheVariants.{Solved, WrongSize, PivotOutside}
+use Rattle.matrix.specs.declared.linear.SolveError.{SolveError}
+use Rattle.matrix.specs.declared.linear.SolveError.TheVariants.{WrongSize, PivotOutside}
 use Rattle.matrix.specs.Size.{sized_of}
 
 -- what a call comes to: its answer, then what `b` holds after it
@@ -16,10 +16,10 @@ abbrev pub SolveOutcome : Type 0
 SolveOutcome = Outcome Unit × List Float
 
 -- what each answer says: done, or the number of the refusal
-abbrev pub solution_of : Solution → Outcome Unit
-solution_of Solved = gives tt
-solution_of WrongSize = refuses 14
-solution_of PivotOutside = refuses 16
+abbrev pub solution_of : Result (Unit {0}) SolveError → Outcome Unit
+solution_of (Ok _) = gives tt
+solution_of (Err WrongSize) = refuses 14
+solution_of (Err PivotOutside) = refuses 16
 
 -- ---- the pivots
 
@@ -38,6 +38,12 @@ inside_of n ip = loop 0 (n - 1) (inside_turn n ip) true
 -- the same as a statement, for those whose pivots passed the test
 abbrev pub Inside : ℕ → List ℕ → Type 0
 Inside n ip = (k : ℕ) → k < n - 1 → row ip k < n
+
+-- ---- both phases
+
+-- `b[i] += a[(i, k)] * t`, with t as it was before the rows were gone through
+unfoldable pub added_turn : ℕ → List Float → ℕ → Float → ℕ → List Float → List Float
+added_turn n a k t i b = set b i (at b i ⊕ cell n a i k ⊗ t)
 
 -- ---- forward elimination
 

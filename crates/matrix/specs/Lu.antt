@@ -1,7 +1,7 @@
 -- LU decomposition with partial pivoting, P A = L U, in the order of the Rust's `lu_decomp` (matrix/lu.rs, the real half).
 -- a is the matrix, stored by rows, and n its size. U replaces it from the diagonal on; below the diagonal stand the multipliers of L
 -- with their sign turned, each where it was made: a later exchange does not move it. ip[k] is the row exchanged with row k.
-use Rattle.std.specs.Prelude.{List, ℕ, zero, suc, ◌+◌, ◌-◌, length, set, eqb, Float}
+use Rattle.std.specs.Prelude.{Result, Ok, Err, List, ℕ, zero, suc, ◌+◌, ◌-◌, length, set, eqb, Float}
 use Rattle.std.specs.Float.Ieee
 use Rattle.loops.specs.Choice.{when◌then◌else◌}
 use Rattle.loops.specs.Loop.{loop}
@@ -9,8 +9,8 @@ use Rattle.loops.specs.Cell.{cell, stored}
 use Rattle.loops.specs.Refusal.{Outcome, gives, refuses}
 use Rattle.loops.specs.Arithmetic.{◌⊕◌, ◌⊗◌, ◌⊘◌, +0, one}
 use Rattle.number.specs.Helpers.{abs_of}
-use Rattle.matrix.specs.declared.lu.Factoring.{Factoring}
-use Rattle.matrix.specs.declared.lu.Factoring.TheVariants.{Factored, WrongSize, Singular}
+use Rattle.matrix.specs.declared.lu.LuError.{LuError}
+use Rattle.matrix.specs.declared.lu.LuError.TheVariants.{WrongSize, Singular}
 use Rattle.matrix.specs.Size.{sized_of}
 
 -- what a call comes to: its answer, then what `a` and `ip` hold after it
@@ -18,10 +18,10 @@ abbrev pub LuOutcome : Type 0
 LuOutcome = Outcome Unit × List Float × List ℕ
 
 -- what each answer says: done, or the number of the refusal
-abbrev pub factoring_of : Factoring → Outcome Unit
-factoring_of Factored = gives tt
-factoring_of WrongSize = refuses 14
-factoring_of Singular = refuses 15
+abbrev pub factoring_of : Result (Unit {0}) LuError → Outcome Unit
+factoring_of (Ok _) = gives tt
+factoring_of (Err WrongSize) = refuses 14
+factoring_of (Err Singular) = refuses 15
 
 -- ---- the pivot: of column k from the diagonal down, the row with the largest magnitude, and of equal ones the first
 

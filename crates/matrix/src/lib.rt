@@ -7,5 +7,5 @@ pub mod linear;
 pub mod lu;
 
 pub use cell::MAX_N;
-pub use linear::{Solution, lin_solve};
-pub use lu::{Factoring, lu_decomp};
+pub use linear::{SolveError, lin_solve};
+pub use lu::{LuError, lu_decomp};

@@ -6,13 +6,11 @@ ghost use Rattle.matrix.specs.Magnitude.{magnitude_of};
 ghost use Rattle.matrix.specs.Lu.{factoring_of, pivot_of, exchanged_of, stage_of, stages_of, lu_decomp_of};
 ghost use Rattle.matrix.specs.Rows.{added_of, cell_turn, row_turn, Zeros};
 
-use crate::cell::{get, put, sized};
+use crate::cell::{Square, get, put, sized};
 
-// What `lu_decomp` answers.
+// Why `lu_decomp` refuses.
 #[derive(Clone, Copy)]
-pub enum Factoring {
-    // a holds the factors, ip the pivots.
-    Factored,
+pub enum LuError {
     // Refusal 14: n is 0 or above MAX_N, or a is not n * n long. Nothing was changed.
     WrongSize,
     // Refusal 15: a pivot is zero. The stages before it were done.
@@ -27,14 +25,14 @@ fn magnitude(x: f64) -> f64
 }
 
 // The row of the first largest magnitude of column k, from the diagonal down.
-fn pivot_row(a: &[f64], n: usize, k: usize) -> usize
-    requires { (k < n) × (length a.now ≡ n * n) }
-    ensures { (result < n) × (result ≡ pivot_of n a.now k) }
+fn pivot_row(a: Square, k: usize) -> usize
+    requires { k < a.n }
+    ensures { (result < a.entry.n) × (result ≡ pivot_of a.entry.n a.entry.cells.now k) }
 {
     let mut m = k;
-    let mut max_val = magnitude(get(a, n, k, k));
-    for i in k + 1..n {
-        let val = magnitude(get(a, n, i, k));
+    let mut max_val = magnitude(a.at(k, k));
+    for i in k + 1..a.n {
+        let val = magnitude(a.at(i, k));
         if val > max_val {
             max_val = val;
             m = i;
@@ -43,8 +41,9 @@ fn pivot_row(a: &[f64], n: usize, k: usize) -> usize
     m
 }
 
-// a[(m, j)] and a[(k, j)] change places. Where m is k the number is written back, which costs less than a test that is hard to
-// foresee.
+// a[(m, j)] and a[(k, j)] change places.
+// Stays two reads and two writes: `swap` asks first which place is the lower, and that test, hard to foresee, costs more than the writes.
+// Stays a slice beside its n, here and below: a struct of both needs two clauses a function, that neither changes, for the one that it spares.
 fn exchange(a: &mut [f64], n: usize, m: usize, k: usize, j: usize)
     requires { (m < n) × (k < n) × (j < n) × (length a.old ≡ n * n) }
     ensures { a.new ≡ exchanged_of n m k j a.old }
@@ -73,19 +72,17 @@ fn added(x: f64, l: f64, t: f64) -> f64
 }
 
 // Where the zeros begin with which row k ends.
-fn reach(a: &[f64], n: usize, k: usize) -> usize
-    requires { (k < n) × (length a.now ≡ n * n) }
-    ensures { (k < result) × (result ≤ n) × Zeros n k result a.now }
+fn reach(a: Square, k: usize) -> usize
+    requires { k < a.n }
+    ensures { (k < result) × (result ≤ a.entry.n) × Zeros a.entry.n k result a.entry.cells.now }
 {
-    let mut end = n;
-    while k + 1 < end {
-        let last = end - 1;
-        if get(a, n, k, last) != 0.0 {
+    for zeros in 0..a.n - k - 1 {
+        let end = a.n - zeros;
+        if a.at(k, end - 1) != 0.0 {
             return end;
         }
-        end = last;
     }
-    end
+    k + 1
 }
 
 // Along row i: a[(i, j)] += a[(i, k)] * a[(k, j)], unless a[(k, j)] is zero, as all are from `end` on. l is a[(i, k)], which the
@@ -107,7 +104,7 @@ fn rows(a: &mut [f64], n: usize, k: usize, t: f64)
     requires { (k < n) × (length a.old ≡ n * n) }
     ensures { a.new ≡ loop (k + 1) n (row_turn n k t) a.old }
 {
-    let end = reach(a, n, k);
+    let end = reach(Square { cells: a, n }, k);
     for i in k + 1..n {
         let x = get(a, n, i, k);
         let l = -x * t;
@@ -128,39 +125,39 @@ fn stage(a: &mut [f64], n: usize, m: usize, k: usize)
 }
 
 // The stages one after the other, until a pivot is zero.
-fn stages(a: &mut [f64], ip: &mut [usize], n: usize) -> Factoring
+fn stages(a: &mut [f64], ip: &mut [usize], n: usize) -> Result<(), LuError>
     requires { (0 < n) × (length ip.old ≡ n) × (length a.old ≡ n * n) }
     ensures { (factoring_of result, a.new, ip.new) ≡ stages_of n (n - 1) 0 a.old ip.old }
 {
     let nm1 = n - 1;
     for k in 0..nm1 {
-        let m = pivot_row(a, n, k);
+        let m = pivot_row(Square { cells: a, n }, k);
         ip[k] = m;
         if get(a, n, m, k) == 0.0 {
-            return Factoring::Singular;
+            return Err(LuError::Singular);
         }
         stage(a, n, m, k);
     }
     if get(a, n, nm1, nm1) == 0.0 {
-        return Factoring::Singular;
+        return Err(LuError::Singular);
     }
-    Factoring::Factored
+    Ok(())
 }
 
-// Factors the n by n matrix a in place, n being ip's length: see `lu_decomp_of`.
-pub fn lu_decomp(a: &mut [f64], ip: &mut [usize]) -> Factoring
+// Factors the n by n matrix a in place, n being ip's length, and puts the pivots into ip: see `lu_decomp_of`.
+pub fn lu_decomp(a: &mut [f64], ip: &mut [usize]) -> Result<(), LuError>
     ensures { (factoring_of result, a.new, ip.new) ≡ lu_decomp_of a.old ip.old }
 {
     let n = ip.len();
     if !sized(n, a.len()) {
-        return Factoring::WrongSize;
+        return Err(LuError::WrongSize);
     }
     if n == 1 {
         if a[0] == 0.0 {
-            return Factoring::Singular;
+            return Err(LuError::Singular);
         }
         ip[0] = 0;
-        return Factoring::Factored;
+        return Ok(());
     }
     stages(a, ip, n)
 }

@@ -1,4 +1,5 @@
 // abs, signum, min and max of a double. Each is a few instructions with no jump.
+// Stays written out: f64's own `min` and `max` leave open which of two zeros they give, and its `abs` takes two comparisons for one mask.
 
 ghost use Rattle.std.specs.Prelude.{◌≡◌};
 ghost use Rattle.number.specs.Helpers.{abs_of, signum_of, min_of, max_of};

@@ -3,27 +3,25 @@
 use Rattle.std.specs.Prelude.{◌≡◌, Bool, ℕ, ◌+◌, leb, List, ◌++◌, take, ⊤, Option, None, Some}
 use Rattle.std.specs.Io.KnownBytes.{Keeps}
 use Rattle.loops.specs.Choice.{when◌then◌else◌}
-use Rattle.text.specs.declared.page.Place.{Place}
-use Rattle.text.specs.declared.page.Place.TheVariants.{At, Full}
 
 -- A page of `len` bytes, written out up to its place: it begins anew, or is full where the write failed or there was no such
 -- part of it to write. A full page stays full.
-unfoldable pub flushed : Bool → ℕ → Place → Place
-flushed written len (At at) = when leb at len then (when written then At 0 else Full) else Full
-flushed written len Full = Full
+unfoldable pub flushed : Bool → ℕ → Option ℕ → Option ℕ
+flushed written len (Some at) = when leb at len then (when written then Some 0 else None) else None
+flushed written len None = None
 
 -- the same, but only where fewer than `line` bytes are left on it
-unfoldable pub made_roomy : Bool → ℕ → ℕ → Place → Place
+unfoldable pub made_roomy : Bool → ℕ → ℕ → Option ℕ → Option ℕ
 unfolding flushed
-made_roomy written len line (At at) = when leb (at + line) len then At at else flushed written len (At at)
-made_roomy written len line Full = Full
+made_roomy written len line (Some at) = when leb (at + line) len then Some at else flushed written len (Some at)
+made_roomy written len line None = None
 
 -- r is the place that comes back, whatever became of the write
-pub record Flushed (len : ℕ) (place r : Place) : Type 0 where
+pub record Flushed (len : ℕ) (place r : Option ℕ) : Type 0 where
   pub written : Bool
   pub is : r ≡ flushed written len place
 
-pub record MadeRoomy (len line : ℕ) (place r : Place) : Type 0 where
+pub record MadeRoomy (len line : ℕ) (place r : Option ℕ) : Type 0 where
   pub written : Bool
   pub is : r ≡ made_roomy written len line place
 
@@ -35,7 +33,7 @@ SaysTheSame (Some held) (Some holds) before after = held ++ before ≡ holds ++ 
 
 -- What was written and then the page up to its place are as they were: no byte of it is lost, none comes twice. A full page is not
 -- written. Where a write fails a part of it may be.
-abbrev pub KeepsSaid : Option (List ℕ) → Option (List ℕ) → List ℕ → Place → Place → Type 0
-KeepsSaid old new out (At at) (At next) = SaysTheSame old new (take at out) (take next out)
-KeepsSaid old new out (At at) Full = ⊤
-KeepsSaid old new out Full r = Keeps old new
+abbrev pub KeepsSaid : Option (List ℕ) → Option (List ℕ) → List ℕ → Option ℕ → Option ℕ → Type 0
+KeepsSaid old new out (Some at) (Some next) = SaysTheSame old new (take at out) (take next out)
+KeepsSaid old new out (Some at) None = ⊤
+KeepsSaid old new out None r = Keeps old new

@@ -1,5 +1,5 @@
 -- One call of the renderer: what is said, the place moved on, and the slice with the samples.
-use Rattle.std.specs.Prelude.{Bool, true, false, ◌&&◌, ◌||◌, not, List, ℕ, ◌+◌, ◌-◌, ◌*◌, ◌/◌, ◌^◌, min, ltb, eqb, Float, length}
+use Rattle.std.specs.Prelude.{Bool, true, ◌&&◌, not, List, ℕ, ◌+◌, ◌-◌, ◌*◌, ◌/◌, ◌^◌, min, ltb, eqb, Float, length, Result, Ok, Err}
 use Rattle.std.specs.Float.Ieee
 use Rattle.loops.specs.Choice.{when◌then◌else◌}
 use Rattle.loops.specs.Loop.{loop}
@@ -9,32 +9,31 @@ use Rattle.loops.specs.Arithmetic.{+0}
 use Rattle.matrix.specs.Size.{max_n}
 use Rattle.interpolation.specs.Interpolate.{values_at}
 use Rattle.render.specs.declared.grid.Grid.{Grid}
+use Rattle.render.specs.declared.grid.Grid.TheVariants.{Fresh, Open, Closed}
 use Rattle.render.specs.declared.grid.Notice.{Notice}
-use Rattle.render.specs.declared.grid.Rendering.{Rendering}
-use Rattle.render.specs.declared.grid.Rendering.TheVariants.{Sampled, TooMany, WrongLength, OutOfTurn, OutOfRange}
+use Rattle.render.specs.declared.grid.Sampled.{Sampled}
+use Rattle.render.specs.declared.grid.RenderError.{RenderError}
+use Rattle.render.specs.declared.grid.RenderError.TheVariants.{TooMany, WrongLength, OutOfTurn, OutOfRange}
 use Rattle.render.specs.Times.{time_of, past, within, first_from, counted}
 
 -- ---- the place
 
 -- before the first notice
 abbrev pub fresh_grid : Grid
-fresh_grid = record { next = 0; begun = false; «open» = false; start = +0; end = +0; h = +0 }
+fresh_grid = Fresh
 
 -- behind the notice t, with k the next to write: some k of t is due while that one does not lie past its new x
 abbrev pub placed_at : Notice → ℕ → Grid
-placed_at t k = record { next = k; begun = true; «open» = not (past t.new k); start = t.start; end = t.new; h = t.h }
+placed_at t k = when past t.new k then Closed t k else Open t k
 
 -- ---- the refusals
 
 -- 18, after a first call: an unfinished notice is repeated, its two x and h; with none unfinished, the notice starts where the last
 -- ended
-abbrev pub goes_on : Grid → Notice → Bool
-goes_on g t =
-    when g.«open» then Ieee.eq t.start g.start && Ieee.eq t.new g.end && Ieee.eq t.h g.h else
-    Ieee.eq t.start g.end
-
 abbrev pub follows : Grid → Notice → Bool
-follows g t = not g.begun || goes_on g t
+follows Fresh t = true
+follows (Open last next) t = Ieee.eq t.start last.start && Ieee.eq t.new last.new && Ieee.eq t.h last.h
+follows (Closed last next) t = Ieee.eq t.start last.new
 
 -- 19: h is above 0, and both x lie within -80,000 to 80,000
 abbrev pub proper : Notice → Bool
@@ -44,7 +43,9 @@ proper t = Ieee.lt +0 t.h && within t.start && within t.new
 
 -- the first k that a call may write: on a first call the least whose time is not below x0
 abbrev pub due_from : Grid → Notice → ℕ
-due_from g t = when g.begun then g.next else first_from t.start
+due_from Fresh t = first_from t.start
+due_from (Open last next) t = next
+due_from (Closed last next) t = next
 
 -- how many samples of n numbers have room; without components a sample has no numbers, and there is room for every k
 abbrev pub room_for : ℕ → ℕ → ℕ
@@ -60,23 +61,21 @@ rows t n cont k c out = loop 0 c (λ i out. over (i * n) n (λ yi. values_at (ti
 
 -- ---- the whole
 
--- what a call that is not refused says: how many samples it wrote, from which k on, and whether the notice is done
-pub record Samples : Type 0 where
-  pub from : ℕ
-  pub count : ℕ
-  pub done : Bool
-
 -- the numbers of the refusals
-abbrev pub said_of : Rendering → Outcome Samples
-said_of (Sampled from count done) = gives (record { from = from; count = count; done = done })
-said_of TooMany = refuses 1
-said_of WrongLength = refuses 13
-said_of OutOfTurn = refuses 18
-said_of OutOfRange = refuses 19
+abbrev pub number_of : RenderError → ℕ
+number_of TooMany = 1
+number_of WrongLength = 13
+number_of OutOfTurn = 18
+number_of OutOfRange = 19
+
+-- what is said: how many samples were written, from which k on, and whether the notice is done; or the number of a refusal
+abbrev pub said_of : Result Sampled RenderError → Outcome Sampled
+said_of (Ok s) = gives s
+said_of (Err e) = refuses (number_of e)
 
 -- what is said, the place, and the slice afterwards
 pub data Renders : Type 0 where
-  renders : Outcome Samples → Grid → List Float → Renders
+  renders : Outcome Sampled → Grid → List Float → Renders
 
 unfoldable pub written : Grid → Notice → ℕ → List Float → List Float → Renders
 unfolding rows

@@ -1,17 +1,45 @@
 // The place on the grid, a step notice as the renderer takes it, and what is answered.
 ghost use Rattle.std.specs.Prelude.{◌≡◌};
-ghost use Rattle.render.specs.Sampled.{fresh_grid};
+ghost use Rattle.render.specs.Times.{within};
+ghost use Rattle.render.specs.Sampled.{fresh_grid, follows, due_from, proper};
 
-// The place on the grid: the next k to write, whether a notice has come, and the two x and the h of the last one. It is `open` while
-// some k of that notice is due.
-#[derive(Clone, Copy)]
-pub struct Grid {
-    pub next: u64,
-    pub begun: bool,
-    pub open: bool,
+use crate::times::first_from;
+
+// A step notice: its true start, its new x and its signed step.
+#[derive(Clone, Copy, PartialEq)]
+pub struct Notice {
     pub start: f64,
-    pub end: f64,
+    pub new: f64,
     pub h: f64,
+}
+
+impl Notice {
+    // Whether the step goes forward, between two x in range.
+    pub(crate) fn is_proper(self) -> bool
+        ensures { result ≡ proper self }
+    {
+        0.0 < self.h && is_within(self.start) && is_within(self.new)
+    }
+}
+
+// Between these the grid's numbers stay below 2^32.
+const EARLIEST: f64 = -80000.0;
+
+const LATEST: f64 = 80000.0;
+
+fn is_within(x: f64) -> bool
+    ensures { result ≡ within x }
+{
+    EARLIEST <= x && x <= LATEST
+}
+
+// The place on the grid: before the first notice it is fresh, and from then on it has the last notice and the next k to write. It is open
+// while some k of that notice is due, and closed once none is.
+#[derive(Clone, Copy)]
+pub enum Grid {
+    Fresh,
+    Open { last: Notice, next: u64 },
+    Closed { last: Notice, next: u64 },
 }
 
 impl Grid {
@@ -19,30 +47,42 @@ impl Grid {
     pub fn new() -> Grid
         ensures { result ≡ fresh_grid }
     {
-        Grid {
-            next: 0,
-            begun: false,
-            open: false,
-            start: 0.0,
-            end: 0.0,
-            h: 0.0,
+        Grid::Fresh
+    }
+
+    // Whether a notice is in turn: it repeats the one that is open, or starts where the one that is closed ended.
+    pub(crate) fn is_followed_by(self, notice: Notice) -> bool
+        ensures { result ≡ follows self notice }
+    {
+        match self {
+            Grid::Fresh => true,
+            Grid::Open { last, next: _ } => notice == last,
+            Grid::Closed { last, next: _ } => notice.start == last.new,
+        }
+    }
+
+    // The first k that a call may write.
+    pub(crate) fn due_from(self, notice: Notice) -> u64
+        ensures { result ≡ due_from self notice }
+    {
+        match self {
+            Grid::Fresh => first_from(notice.start),
+            Grid::Open { last: _, next } | Grid::Closed { last: _, next } => next,
         }
     }
 }
 
-// A step notice: its true start, its new x and its signed step.
+// What a call wrote: so many samples, the first of them for the k `from`. It is `done` where no k of the notice is left.
 #[derive(Clone, Copy)]
-pub struct Notice {
-    pub start: f64,
-    pub new: f64,
-    pub h: f64,
+pub struct Sampled {
+    pub from: u64,
+    pub count: usize,
+    pub done: bool,
 }
 
-// What `sample` answers. Refusal 1 is TooMany, 13 WrongLength, 18 OutOfTurn, 19 OutOfRange.
-#[derive(Clone, Copy)]
-pub enum Rendering {
-    // So many samples were written, the first of them for the k `from`; `done` where no k of the notice is left.
-    Sampled { from: u64, count: usize, done: bool },
+// Why a call did nothing, in the order of checking: refusals 1, 13, 18 and 19.
+#[derive(Clone, Copy, PartialEq, Eq)]
+pub enum RenderError {
     // More components than there may be.
     TooMany,
     // The coefficients are not those of n components.

@@ -2,10 +2,9 @@
 #![tactic(auto)]
 
 mod grid;
-mod placing;
 mod rows;
 mod sampling;
 mod times;
 
-pub use grid::{Grid, Notice, Rendering};
+pub use grid::{Grid, Notice, RenderError, Sampled};
 pub use sampling::sample;

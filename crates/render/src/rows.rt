@@ -8,6 +8,7 @@ use crate::times::time_of;
 use interpolation::interpolate;
 
 // `count` samples from k on, n numbers each, from the beginning of `out`.
+// Stays a count beside the slice, and a loop over numbers: without components a sample is empty, and the slice tells neither.
 pub(crate) fn write_rows(
     notice: Notice,
     n: usize,
@@ -23,6 +24,6 @@ pub(crate) fn write_rows(
         let a = i * n;
         let e = a + n;
         let t = time_of(k + i as u64);
-        interpolate(t, &mut out[a..e], cont, notice.start, notice.h);
+        let _ = interpolate(t, &mut out[a..e], cont, notice.start, notice.h);
     }
 }

@@ -6,6 +6,7 @@ ghost use Rattle.render.specs.Times.{time_of, within, first_from, first_past};
 const RATE: f64 = 48000.0;
 
 // The quotient is rounded once: k itself is exact.
+#[tactic(auto, unfolding(crate::specs::Times::time_of))]
 pub(crate) fn time_of(k: u64) -> f64
     requires { k ≤ 2 ^ 53 }
     ensures { result ≡ time_of k }
@@ -19,13 +20,10 @@ pub(crate) fn first_from(x: f64) -> u64
 {
     let mut lo: u64 = 0;
     let mut width: u64 = 4294967296;
-    let mut left: u64 = 32;
-    while left > 0 {
-        left = left - 1;
-        width = width / 2;
-        let t = time_of(lo + (width - 1));
-        if t < x {
-            lo = lo + width;
+    for _ in 0..32u32 {
+        width /= 2;
+        if time_of(lo + (width - 1)) < x {
+            lo += width;
         }
     }
     lo
@@ -43,12 +41,10 @@ pub(crate) fn first_past(x: f64) -> u64
         return 0;
     }
     let guess = (x * RATE + WHOLE) as u64 - 4503599627370496;
-    let next = time_of(guess + 1);
-    if next <= x {
+    if time_of(guess + 1) <= x {
         return guess + 2;
     }
-    let here = time_of(guess);
-    if here <= x {
+    if time_of(guess) <= x {
         return guess + 1;
     }
     guess

@@ -1,108 +1,104 @@
 // What a run is begun with, as its words give it: the settings, the two ends, and the tolerances.
-ghost use Rattle.std.specs.Prelude.{◌≡◌, ◌≤◌, length};
+use crate::run::Room;
+use crate::solver;
+use crate::solver::{BDF, Tolerance, Turn};
+use crate::words::Words;
 
-use crate::solver::{BDF, Setting, Tolerance};
-use crate::source;
-use crate::source::Source;
+pub(crate) const MOST: usize = 64;
 
 const SCALAR: u64 = u64::MAX;
 
-const MOST: u64 = 64;
-
 #[derive(Clone, Copy)]
-pub(crate) struct Config {
-    pub settings: BDF,
-    pub x0: f64,
-    pub xend: f64,
-    pub rtol: Allowed,
-    pub atol: Allowed,
-    pub source: Source,
+pub(crate) struct Config<'a> {
+    settings: BDF,
+    x0: f64,
+    xend: f64,
+    rtol: Allowed<'a>,
+    atol: Allowed<'a>,
 }
 
-// A tolerance, how many entries it has beside it, and where the words go on.
+// A tolerance, and its entries beside it.
 #[derive(Clone, Copy)]
-pub(crate) struct Allowed {
-    pub tolerance: Tolerance,
-    pub entries: usize,
-    pub source: Source,
+struct Allowed<'a> {
+    tolerance: Tolerance,
+    entries: &'a [f64],
 }
 
-pub(crate) fn read(inp: &mut [u8], s: Source, rtols: &mut [f64], atols: &mut [f64]) -> Config
-    requires { (length rtols.old ≡ 64) × (length atols.old ≡ 64) }
-    ensures { (result.rtol.entries ≤ 64) × (result.atol.entries ≤ 64) }
-{
-    let mut head = [0usize; 9];
-    let first = source::numbers(inp, s, &mut head);
-    let rtol = tolerance(inp, first, rtols);
-    let atol = tolerance(inp, rtol.source, atols);
-    let source = atol.source;
-    Config {
-        settings: settings(&head),
-        x0: x0(&head),
-        xend: xend(&head),
-        rtol,
-        atol,
-        source,
+impl<'a> Config<'a> {
+    // The nine words in front are max_steps, newton_maxiter, the flags, x0, xend, and then what each of the first four flags is for.
+    pub(crate) fn read(
+        words: &mut Words,
+        rtols: &'a mut [f64; MOST],
+        atols: &'a mut [f64; MOST],
+    ) -> Option<Config<'a>> {
+        let max_steps = words.number()?;
+        let newton_maxiter = words.number()?;
+        let flags = words.word()?;
+        let x0 = words.double()?;
+        let xend = words.double()?;
+        let settings = BDF {
+            max_steps,
+            max_step: given(flags, words.double()?),
+            min_step: given(flags / 2, words.double()?),
+            newton_maxiter,
+            newton_tol: given(flags / 4, words.double()?),
+            first_step: given(flags / 8, words.double()?),
+            guarded: is_set(flags / 16),
+        };
+        Some(Config {
+            settings,
+            x0,
+            xend,
+            rtol: tolerance(words, rtols)?,
+            atol: tolerance(words, atols)?,
+        })
     }
-}
 
-// The nine words in front: max_steps, newton_maxiter, the flags, x0, xend, and then what each of the first four flags is for. Bit
-// 4 of the flags is `guarded`.
-fn settings(head: &[usize; 9]) -> BDF {
-    let flags = head[2];
-    BDF {
-        max_steps: head[0],
-        max_step: setting(flags, head[5]),
-        min_step: setting(flags / 2, head[6]),
-        newton_maxiter: head[1],
-        newton_tol: setting(flags / 4, head[7]),
-        first_step: setting(flags / 8, head[8]),
-        guarded: flags / 16 % 2 == 1,
+    // The run's first answer.
+    pub(crate) fn begin(self, y: &[f64], room: &mut Room) -> Turn {
+        let rtol = self.rtol;
+        let atol = self.atol;
+        solver::begin(
+            self.settings,
+            self.x0,
+            y,
+            self.xend,
+            rtol.tolerance,
+            rtol.entries,
+            atol.tolerance,
+            atol.entries,
+            &mut room.ws,
+            &mut room.q,
+        )
     }
-}
-
-fn x0(head: &[usize; 9]) -> f64 {
-    text::double(head[3] as u64)
-}
-
-fn xend(head: &[usize; 9]) -> f64 {
-    text::double(head[4] as u64)
 }
 
 // Given where the last bit of the flags is set.
-fn setting(flags: usize, word: usize) -> Setting {
-    if flags % 2 == 1 {
-        return Setting::Given(text::double(word as u64));
-    }
-    Setting::Unset
+fn given(flags: u64, x: f64) -> Option<f64> {
+    is_set(flags).then_some(x)
+}
+
+fn is_set(flags: u64) -> bool {
+    flags % 2 == 1
 }
 
 // A word of all ones and one number, or a count and that many.
-fn tolerance(inp: &mut [u8], s: Source, to: &mut [f64]) -> Allowed
-    requires { length to.old ≡ 64 }
-    ensures { result.entries ≤ 64 }
-{
-    let first = source::word(inp, s);
-    if first.word == SCALAR {
-        return scalar(inp, first.source);
+fn tolerance<'a>(words: &mut Words, to: &'a mut [f64; MOST]) -> Option<Allowed<'a>> {
+    let first = words.word()?;
+    if first == SCALAR {
+        return scalar(words);
     }
-    let size = source::at_most(first, MOST);
-    let entries = size.word as usize;
-    Allowed {
+    let entries = to.get_mut(..first as usize)?;
+    words.doubles(entries)?;
+    Some(Allowed {
         tolerance: Tolerance::Vector,
         entries,
-        source: source::doubles(inp, size.source, &mut to[..entries]),
-    }
+    })
 }
 
-fn scalar(inp: &mut [u8], s: Source) -> Allowed
-    ensures { result.entries ≤ 64 }
-{
-    let x = source::word(inp, s);
-    let source = x.source;
-    Allowed {
-        tolerance: Tolerance::Scalar(text::double(x.word)),
-        entries: 0,
-        source,
-    }
+fn scalar<'a>(words: &mut Words) -> Option<Allowed<'a>> {
+    Some(Allowed {
+        tolerance: Tolerance::Scalar(words.double()?),
+        entries: &[],
+    })
 }

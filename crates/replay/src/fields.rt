@@ -1,69 +1,52 @@
 // Lines of text, onto a page that was made roomy before each of them: a line has its place unless a write failed.
-use crate::state::State;
-use text::Place;
+use crate::numbered::Numbered;
+use text::Page;
 
 // Room for any line. The longest has the factors of 33 rows: 1,089 doubles of 17 bytes, and 33 counts of at most 21.
 pub(crate) const LINE: usize = 20480;
 
-// A line's next field, after a space.
-fn next_double(out: &mut [u8], place: Place, x: f64) -> Place {
-    let after = text::put_byte(out, place, b' ');
-    text::put_double(out, after, x)
+// What a field can hold.
+pub(crate) trait Field: Copy {
+    fn put(self, page: &mut Page);
 }
 
-pub(crate) fn next_count(out: &mut [u8], place: Place, n: u64) -> Place {
-    let after = text::put_byte(out, place, b' ');
-    text::put_count(out, after, n)
-}
-
-// Doubles, each after a space.
-pub(crate) fn doubles(out: &mut [u8], place: Place, xs: &[f64]) -> Place {
-    let mut at = place;
-    for i in 0..xs.len() {
-        at = next_double(out, at, xs[i]);
+impl Field for f64 {
+    fn put(self, page: &mut Page) {
+        page.put_double(self);
     }
-    at
 }
 
-// Whole numbers, each after a space.
-pub(crate) fn counts(out: &mut [u8], place: Place, ns: &[usize]) -> Place {
-    let mut at = place;
-    for i in 0..ns.len() {
-        at = next_count(out, at, ns[i] as u64);
+impl Field for u64 {
+    fn put(self, page: &mut Page) {
+        page.put_count(self);
     }
-    at
+}
+
+impl Field for usize {
+    fn put(self, page: &mut Page) {
+        page.put_count(self as u64);
+    }
+}
+
+// A line's next fields, each after a space.
+pub(crate) fn put<T: Field>(page: &mut Page, fields: &[T]) {
+    for field in fields {
+        page.put_byte(b' ');
+        field.put(page);
+    }
 }
 
 // A refusal by its number: `R 14`.
-pub(crate) fn refusal(out: &mut [u8], place: Place, number: u64) -> Place {
-    let r = text::put_byte(out, place, b'R');
-    next_count(out, r, number)
+pub(crate) fn refusal<E: Numbered>(page: &mut Page, why: E) {
+    page.put_byte(b'R');
+    put(page, &[why.number()]);
 }
 
-// The line of a leaf, unless its words broke off: its numbers, or the number of a refusal where that is not 0.
-pub(crate) fn leaf(out: &mut [u8], s: State, number: u64, xs: &[f64]) -> State {
-    let source = s.source;
-    let to = s.to;
-    let place = s.place;
-    if !source.fit {
-        return s;
+// The line of a leaf: its numbers, of which the first has no space before it.
+pub(crate) fn numbers_line(page: &mut Page, xs: &[f64]) {
+    if let [first, rest @ ..] = xs {
+        page.put_double(*first);
+        put(page, rest);
     }
-    let given = values(out, place, number, xs);
-    State {
-        source,
-        to,
-        place: text::put_byte(out, given, b'\n'),
-    }
-}
-
-// The first number of such a line has no space before it.
-fn values(out: &mut [u8], place: Place, number: u64, xs: &[f64]) -> Place {
-    if number != 0 {
-        return refusal(out, place, number);
-    }
-    if xs.len() == 0 {
-        return place;
-    }
-    let first = text::put_double(out, place, xs[0]);
-    doubles(out, first, &xs[1..])
+    page.put_byte(b'\n');
 }

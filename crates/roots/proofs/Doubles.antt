@@ -7,14 +7,14 @@ use native.Mathlib.Nat.{lt_irrefl, not-le_of_lt, mul-one, zero-mul, mul-pos, zer
 use native.Mathlib.Omega.{arith}
 use lib.IntN.{ℤ, pos}
 use lib.Dec.{T}
-use lib.Ieee.{Float, nan, inf, fin, binary64, up, down, ne, eq, lt, fits, of_bits, to_bits, div}
+use lib.Ieee.{Float, nan, inf, fin, binary64, up, down, is_nan, ne, eq, lt, fits, of_bits, to_bits}
 use lib.Ieee.Bits.{of_bits-to_bits}
 use lib.Ieee.Fits.{up_pos}
 use borrow.Author.Tests.{ne_eqb, lt-ltb, le-ltb}
 use Rattle.roots.specs.Roots.{infinity_bits, units_of, rounded, inverse_root}
 use Rattle.roots.proofs.laws.Patterns.{bits_below, units_bits}
 use Rattle.roots.specs.Scaled.{Scaled, nearest_root}
-use Rattle.loops.specs.laws.FloatLaws.{is_nan_lem}
+use Rattle.loops.specs.laws.FloatLaws.{nan_by, is_nan_lem}
 
 -- +0, as the code writes it
 abbrev pub plus_zero : Float
@@ -55,19 +55,23 @@ not_negative m e = le-ltb (m * up e * 1) (0 * down e) (omega arith)
 
 -- ---- each way out
 
+-- what `is_nan` tells, as the comparison of x with itself
+pub told_by : (x : Float) {r b : Bool} → r ≡ is_nan x → r ≡ b → ne x x ≡ b
+told_by x e t = sym (nan_by x refl) ∙ sym e ∙ t
+
 pub nan_root : (k : ℕ) (x : Float) → ne x x ≡ true → x ≡ inverse_root k x
 unfolding inverse_root
 nan_root k x e = rw (is_nan_lem x e)
 
-pub zero_root : (k : ℕ) (x : Float) → eq x plus_zero ≡ true → div binary64 (of_bits binary64 0x3ff0_0000_0000_0000) plus_zero ≡ inverse_root k x
-unfolding inverse_root of_bits eq div
+pub zero_root : (k : ℕ) (x : Float) → eq x plus_zero ≡ true → of_bits binary64 0x7ff0_0000_0000_0000 ≡ inverse_root k x
+unfolding inverse_root of_bits eq
 zero_root k nan h = clash h refl
 zero_root k (inf s) h = clash h refl
 zero_root k (fin s zero e) h = refl
 zero_root k (fin s (suc m) e) h = clash h (no_zero s m e)
 
-pub negative_root : (k : ℕ) (x : Float) → lt x plus_zero ≡ true → div binary64 plus_zero plus_zero ≡ inverse_root k x
-unfolding inverse_root of_bits lt div
+pub negative_root : (k : ℕ) (x : Float) → lt x plus_zero ≡ true → of_bits binary64 0x7ff8_0000_0000_0000 ≡ inverse_root k x
+unfolding inverse_root of_bits lt
 negative_root k nan h = clash h refl
 negative_root k (inf true) h = refl
 negative_root k (inf false) h = clash h refl

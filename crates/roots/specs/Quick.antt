@@ -1,10 +1,8 @@
 -- What the quick test of a guess goes by: upper parts of products, and where the limit lies among them.
-use Rattle.std.specs.Prelude.{◌≡◌, ℕ, ◌+◌, ◌*◌, ◌^◌, ◌≤◌, ◌<◌}
+use Rattle.std.specs.Prelude.{◌≡◌, Option, Some, None, ℕ, ◌+◌, ◌*◌, ◌^◌, ◌≤◌, ◌<◌}
 use Rattle.roots.specs.Scaled.{nearest_root}
 use Rattle.roots.specs.declared.root_quick.Place.{Place}
-use Rattle.roots.specs.declared.root_quick.Place.TheVariants.{Above, Below, Unknown}
-use Rattle.roots.specs.declared.root_quick.Settled.{Settled}
-use Rattle.roots.specs.declared.root_quick.Settled.TheVariants.{At, Unsure}
+use Rattle.roots.specs.declared.root_quick.Place.TheVariants.{Above, Below}
 
 -- r is the upper 64 bits of u * v, or at most 3 less
 pub record High (u v r : ℕ) : Type 0 where
@@ -22,12 +20,12 @@ LimitIs k q g p = p * (2 ^ 64) ^ k * 2 ^ (q * k + g) ≡ 2 ^ (1075 * k + 1074) *
 
 -- h, or at most `slack` more, is the middle's, and the neighbouring middles' are at least `reach` away: p lies above or below it, and not
 -- beyond the next
-abbrev pub IsPlaced : ℕ → ℕ → ℕ → ℕ → Place → Type 0
-IsPlaced h p slack reach Above = (h + slack ≤ p) × (p < h + reach)
-IsPlaced h p slack reach Below = (p < h) × (h + slack ≤ p + reach)
-IsPlaced h p slack reach Unknown = Unit
+abbrev pub IsPlaced : ℕ → ℕ → ℕ → ℕ → Option Place → Type 0
+IsPlaced h p slack reach (Some Above) = (h + slack ≤ p) × (p < h + reach)
+IsPlaced h p slack reach (Some Below) = (p < h) × (h + slack ≤ p + reach)
+IsPlaced h p slack reach None = Unit
 
 -- where the test is sure, it gives the root
-abbrev pub IsSettled : ℕ → ℕ → ℕ → Settled → Type 0
-IsSettled k digits places (At c) = c ≡ nearest_root k digits places
-IsSettled k digits places Unsure = Unit
+abbrev pub IsSettled : ℕ → ℕ → ℕ → Option ℕ → Type 0
+IsSettled k digits places (Some c) = c ≡ nearest_root k digits places
+IsSettled k digits places None = Unit

@@ -2,13 +2,12 @@
 -- A pattern here has its sign clear, so a greater pattern is a greater value. Values are counted in units of 2 ^ -1074, the
 -- smallest double, so that each is a whole number and nothing is rounded before the answer.
 -- What the two roots mean, with no search in the statements, is proved in `Meaning`, and where the inverse root is infinite in `Overflow`.
-use Rattle.std.specs.Prelude.{Bool, true, false, ◌&&◌, ℕ, zero, suc, ◌+◌, ◌-◌, ◌*◌, ◌/◌, ◌^◌, leb, Float, pos}
+use Rattle.std.specs.Prelude.{Result, Ok, Err, Bool, true, false, ◌&&◌, ℕ, zero, suc, ◌+◌, ◌-◌, ◌*◌, ◌/◌, ◌^◌, leb, Float, pos}
 use Rattle.std.specs.Float.{nan, inf, fin, binary64}
 use Rattle.std.specs.Float.Ieee.{of_bits, up, down}
 use Rattle.loops.specs.Choice.{when◌then◌else◌}
 use Rattle.loops.specs.Refusal.{Outcome, gives, refuses}
-use Rattle.roots.specs.declared.Root.{Root}
-use Rattle.roots.specs.declared.Root.TheVariants.{Value, KOutside}
+use Rattle.roots.specs.declared.KOutside.{KOutside}
 
 -- The magnitude of a double in units of 2 ^ -1074. An infinity counts as 2 ^ 1024, the value that would follow the largest finite one:
 -- so the middle above that one, from which on a value is rounded to infinity, is where IEEE 754 has it.
@@ -69,9 +68,9 @@ inverse_root k (fin true (suc m) e) = nan
 inverse_root k (fin false (suc m) e) = of_bits binary64 (rounded k (units_of (fin false (suc m) e)) (2 ^ (1075 * k + 1074)))
 
 -- by the numbers of docs/RULES.md: k outside 1 to 7 is refusal 14
-unfoldable pub root_said : Root → Outcome Float
-root_said (Value r) = gives r
-root_said KOutside = refuses 14
+unfoldable pub root_said : Result Float KOutside → Outcome Float
+root_said (Ok r) = gives r
+root_said (Err _) = refuses 14
 
 unfoldable pub inverse_root_of : ℕ → Float → Outcome Float
 unfolding inverse_root

@@ -1,6 +1,7 @@
 // The square root and the inverse k-th root of a double, to the bit.
 #![tactic(auto)]
 
+mod bits;
 mod inverse;
 mod power;
 mod root_curve;
@@ -15,8 +16,6 @@ mod whole_root;
 pub use inverse::inverse_root;
 pub use square_root::sqrt;
 
+// Why `inverse_root` refuses: k is not from 1 to 7.
 #[derive(Clone, Copy)]
-pub enum Root {
-    Value(f64),
-    KOutside,
-}
+pub struct KOutside;

@@ -4,6 +4,8 @@ ghost use Rattle.std.specs.Prelude.{◌≡◌, true, false, ◌*◌, ◌^◌, �
 ghost use Rattle.loops.specs.Choice.{when◌then◌else◌};
 ghost use Rattle.roots.specs.Numeral.{numeral, Row, base, room};
 
+use std::cmp::Ordering;
+
 const BASE: u64 = 2147483648;
 
 // a times m, in place. m has two digits, so each new digit takes two products and what was carried.
@@ -15,6 +17,7 @@ fn times(a: &mut [u64; 14], m: u64)
     let high = m / BASE;
     let mut carry: u64 = 0;
     let mut last: u64 = 0;
+    // Stays an index: of a row that is written through `iter_mut` a proof knows the length and no digit.
     for i in 0..14 {
         let digit = a[i];
         let sum = digit * low + last * high + carry;
@@ -28,13 +31,11 @@ fn times(a: &mut [u64; 14], m: u64)
 fn not_above(x: u64, y: u64, below: bool) -> bool
     ensures { result ≡ (when ltb x y then true else when ltb y x then false else below) }
 {
-    if x < y {
-        return true;
+    match x.cmp(&y) {
+        Ordering::Less => true,
+        Ordering::Greater => false,
+        Ordering::Equal => below,
     }
-    if y < x {
-        return false;
-    }
-    below
 }
 
 // Whether a is at most b.

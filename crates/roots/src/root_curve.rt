@@ -1,5 +1,5 @@
-// The numbers that a guess at an inverse k-th root starts from. Each is picked by a match: a table in an array would be written to the
-// stack at each call.
+// The numbers that a guess at an inverse k-th root starts from.
+// Stays a match for each: a table in an array would be written to the stack at each call.
 ghost use Rattle.std.specs.Prelude.{◌≤◌, ◌<◌};
 
 // a, b, c, d of a m^3 + b m^2 + c m + d, the Chebyshev fit to m^(-1/k) for m from 1 to 2: good to 9 bits at k = 1 and to 13 at k = 7.

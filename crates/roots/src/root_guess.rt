@@ -2,14 +2,12 @@
 ghost use Rattle.std.specs.Prelude.{◌*◌, ◌^◌, ◌≤◌, ◌<◌};
 ghost use Rattle.roots.specs.Scaled.{Asked};
 
+use crate::bits::{HIDDEN, INFINITY_BITS, ONE_BITS, places};
 use crate::root_curve::{curve_of, inverse_of, shift};
 use crate::units::Units;
 
-const HIDDEN: u64 = 0x10_0000_0000_0000;
-
-const ONE_BITS: u64 = 0x3ff0_0000_0000_0000;
-
 // r^k.
+// Stays a match: a loop over k would make each product wait for the one before, where here at most three do.
 fn power(r: f64, k: usize) -> f64 {
     let r2 = r * r;
     let r4 = r2 * r2;
@@ -42,32 +40,18 @@ fn near_root(k: usize, m: f64, s: usize, y: f64) -> f64
 fn pattern(r: f64, places: u64) -> u64
     requires { places < 2 ^ 32 }
 {
-    if r != r {
+    if r.is_nan() {
         return 0;
     }
     let b = f64::to_bits(r);
     let field = b / HIDDEN + places;
     let digits = b % HIDDEN;
-    if field < 2101 {
-        let drop = 2101 - field;
-        return if drop < 53 {
-            (HIDDEN + digits) >> drop
-        } else {
-            0
-        };
+    match field {
+        0..=2048 => 0,
+        2049..=2100 => (HIDDEN + digits) >> (2101 - field),
+        2101..=4146 => (field - 2100) * HIDDEN + digits,
+        _ => INFINITY_BITS - 1,
     }
-    if 4147 <= field {
-        return 2047 * HIDDEN - 1;
-    }
-    (field - 2100) * HIDDEN + digits
-}
-
-// By how many places the digits of x stand below those of a number of 53 bits.
-fn zeros_of(digits: u64) -> u64
-    requires { (0 < digits) × (digits < 2 ^ 53) }
-    ensures { result ≤ 52 }
-{
-    (u64::leading_zeros(digits) as u64) - 11
 }
 
 // The digits as a number from 1 to 2.
@@ -96,7 +80,7 @@ fn split(k: u64, height: u64) -> Exponent
     ensures { (result.rest < k) × (result.places < 2 ^ 32) }
 {
     let depth = 1074 + k * 2100 - height;
-    let places = (depth + k - 1) / k;
+    let places = depth.div_ceil(k);
     let rest = k * places - depth;
     Exponent { places, rest }
 }
@@ -105,7 +89,7 @@ fn split(k: u64, height: u64) -> Exponent
 pub(crate) fn guess(k: usize, x: Units) -> u64
     requires { Asked k x.digits x.places }
 {
-    let zeros = zeros_of(x.digits);
+    let zeros = places(x.digits);
     let e = split(k as u64, x.places + 52 - zeros);
     let m = fraction(x.digits, zeros);
     let y = m * two_to(e.rest);

@@ -4,11 +4,12 @@ ghost use Rattle.std.specs.Prelude.{◌≡◌, ◌+◌, ◌^◌, ◌≤◌, ◌<
 ghost use Rattle.roots.specs.Roots.{infinity_bits};
 ghost use Rattle.roots.specs.Scaled.{Asked, reaches_root, nearest_root};
 
+use crate::bits::INFINITY_BITS;
 use crate::power::at_most_power;
 use crate::units::{Units, units_of};
 
 // the first pattern of a NaN
-const PAST_INFINITY: u64 = 0x7ff0_0000_0000_0001;
+const PAST_INFINITY: u64 = INFINITY_BITS + 1;
 
 // Whether the k-th power of b's edge, times x, is at most 1. In half units the edge has the places of the pattern below, and one more than
 // twice its digits.
@@ -20,10 +21,7 @@ fn reaches(k: usize, x: Units, b: u64) -> bool
     let power = k as u64;
     let limit = 1075 * power + 1074;
     let used = r.places * power + x.places;
-    if limit < used {
-        return false;
-    }
-    at_most_power(2 * r.digits + 1, k, x.digits, limit - used)
+    used <= limit && at_most_power(2 * r.digits + 1, k, x.digits, limit - used)
 }
 
 // A place to try between two others: the one proposed, or the middle where that is not between them.
@@ -31,16 +29,11 @@ fn between(lo: u64, hi: u64, proposed: u64) -> u64
     requires { (lo + 1 < hi) × (hi < 2 ^ 64) }
     ensures { (lo < result) × (result < hi) }
 {
-    if lo < proposed {
-        if proposed < hi {
-            return proposed;
-        }
+    if lo < proposed && proposed < hi {
+        proposed
+    } else {
+        lo + (hi - lo) / 2
     }
-    lo + (hi - lo) / 2
-}
-
-fn lower(b: u64, stride: u64) -> u64 {
-    if stride < b { b - stride } else { 0 }
 }
 
 // The greatest pattern that reaches, by a search from a guess on with strides that double. Any guess will do.
@@ -59,7 +52,7 @@ pub(crate) fn greatest_reaching(k: usize, x: Units, guess: u64) -> u64
             next = b + stride;
         } else {
             hi = b;
-            next = lower(b, stride);
+            next = b.saturating_sub(stride);
         }
         stride = stride % 0x1_0000_0000 * 2;
     }

@@ -2,10 +2,7 @@
 // whoever uses it tests it. It is the root in seven cases of eight, and one of its neighbours in nearly all others.
 ghost use Rattle.std.specs.Prelude.{◌^◌, ◌<◌};
 
-use crate::whole_root::HIDDEN;
-
-// the pattern of 1
-const ONE_BITS: u64 = 0x3ff0_0000_0000_0000;
+use crate::bits::{HIDDEN, ONE_BITS};
 
 // The significand of a number near the root of r in [1, 4), whose pattern lies w above that of 1.
 // A polynomial gives p near half of 1 / sqrt(f), f being r or r / 2 in [1, 2), to 16 bits; one step of Newton's method on the
@@ -36,7 +33,7 @@ pub(crate) fn guess(w: u64) -> u64
 fn significand(s: f64) -> u64
     ensures { result < 2 ^ 53 }
 {
-    if s != s {
+    if s.is_nan() {
         return HIDDEN;
     }
     f64::to_bits(s) % (2 * HIDDEN)

@@ -5,10 +5,9 @@ ghost use Rattle.std.specs.Float.Ieee.{of_bits};
 ghost use Rattle.roots.specs.Roots.{infinity_bits, sqrt_of};
 ghost use Rattle.roots.specs.WholeRoot.{scaled_root};
 
+use crate::bits::{HIDDEN, INFINITY_BITS, places};
 use crate::sqrt_guess::guess;
-use crate::whole_root::{HIDDEN, whole_root};
-
-const INFINITY_BITS: u64 = 0x7ff0_0000_0000_0000;
+use crate::whole_root::whole_root;
 
 // the pattern of -0
 const SIGN: u64 = 0x8000_0000_0000_0000;
@@ -18,29 +17,16 @@ const SIGN: u64 = 0x8000_0000_0000_0000;
 pub fn sqrt(x: f64) -> f64
     ensures { result ≡ sqrt_of x }
 {
-    if x != x {
+    if x.is_nan() {
         return x;
     }
-    let b = f64::to_bits(x);
-    if b < HIDDEN {
-        return small(x, b);
+    match f64::to_bits(x) {
+        b if b < HIDDEN => small(x, b),
+        b if b < INFINITY_BITS => normal(b),
+        INFINITY_BITS => x,
+        SIGN => x,
+        _ => f64::NAN,
     }
-    if b < INFINITY_BITS {
-        return normal(b);
-    }
-    if b == INFINITY_BITS {
-        return x;
-    }
-    if b == SIGN {
-        return x;
-    }
-    not_a_number()
-}
-
-fn not_a_number() -> f64
-    ensures { result ≡ nan }
-{
-    0.0 / 0.0
 }
 
 // The root of the normal number with the pattern b. Of its exponent the guess gets the parity: with 1's, an odd one, w is below 2^52.
@@ -64,14 +50,6 @@ fn small(x: f64, b: u64) -> f64
     let a = b << j;
     let m = guess(a - HIDDEN + j % 2 * HIDDEN);
     scaled_root(a, 1074 - j, m)
-}
-
-// By how many places the first digit of b stands below bit 52.
-fn places(b: u64) -> u64
-    requires { (0 < b) × (b < 2 ^ 52) }
-    ensures { (2 ^ 52 ≤ b * 2 ^ result) × (b * 2 ^ result < 2 ^ 53) × (result ≤ 52) }
-{
-    u64::leading_zeros(b) as u64 - 11
 }
 
 // The double nearest to the root of a * 2^(e - 2148), m being a guess at its significand.

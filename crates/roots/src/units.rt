@@ -3,7 +3,7 @@ ghost use Rattle.std.specs.Prelude.{◌<◌};
 ghost use Rattle.roots.specs.Roots.{infinity_bits};
 ghost use Rattle.roots.specs.Scaled.{Scaled};
 
-const HIDDEN: u64 = 0x10_0000_0000_0000;
+use crate::bits::HIDDEN;
 
 // A finite number from 0 on: digits * 2^places units.
 #[derive(Clone, Copy)]
@@ -18,13 +18,14 @@ pub(crate) fn units_of(b: u64) -> Units
     ensures { Scaled b result.digits result.places }
 {
     if b < HIDDEN {
-        return Units {
+        Units {
             digits: b,
             places: 0,
-        };
-    }
-    Units {
-        digits: HIDDEN + b % HIDDEN,
-        places: b / HIDDEN - 1,
+        }
+    } else {
+        Units {
+            digits: HIDDEN + b % HIDDEN,
+            places: b / HIDDEN - 1,
+        }
     }
 }

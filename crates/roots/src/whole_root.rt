@@ -3,8 +3,7 @@
 ghost use Rattle.std.specs.Prelude.{◌≡◌, true, ◌+◌, ◌*◌, ◌^◌, ◌≤◌, ◌<◌, ltb};
 ghost use Rattle.roots.specs.WholeRoot.{NearestWhole};
 
-// The weight of a significand's leading digit, which a pattern does not show: 2^52.
-pub(crate) const HIDDEN: u64 = 0x10_0000_0000_0000;
+use crate::bits::HIDDEN;
 
 // Whether m lies at or below that number: (2 m - 1)^2 < 4 n * 2^52.
 // With m in halves of 27 and 26 bits its square is high * 2^52 + low, low being below 2^53, and no product is too long.
@@ -25,10 +24,7 @@ fn is_root(m: u64, n: u64) -> bool
     requires { (m ≤ 2 ^ 53) × (n < 2 ^ 54) }
     ensures { result ≡ true → NearestWhole n m }
 {
-    if reached(m, n) {
-        return !reached(m + 1, n);
-    }
-    false
+    reached(m, n) && !reached(m + 1, n)
 }
 
 // That number, where m is a guess at it.
@@ -42,10 +38,8 @@ pub(crate) fn whole_root(n: u64, m: u64) -> u64
     if is_root(m + 1, n) {
         return m + 1;
     }
-    if 0 < m {
-        if is_root(m - 1, n) {
-            return m - 1;
-        }
+    if 0 < m && is_root(m - 1, n) {
+        return m - 1;
     }
     search(n)
 }

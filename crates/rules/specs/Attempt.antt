@@ -1,6 +1,6 @@
 -- The main loop's body as far as its first question: the step is fitted between its bounds and to the end, the prediction
 -- made, the matrix factored where it must be, and the first Newton derivative asked.
-use Rattle.std.specs.Prelude.{List, Bool, true, not, ◌&&◌, ◌||◌, ℕ, zero, suc, ◌+◌, ◌-◌, ◌*◌, leb, Float}
+use Rattle.std.specs.Prelude.{List, Bool, true, not, ◌&&◌, ◌||◌, ℕ, zero, suc, ◌+◌, ◌-◌, ◌*◌, leb, Float, Option, Some, None}
 use Rattle.std.specs.Float.Ieee
 use Rattle.loops.specs.Choice.{when◌then◌else◌}
 use Rattle.loops.specs.Cell.{at}
@@ -15,10 +15,7 @@ use Rattle.rules.specs.Places.{d, y_predict, y_new, delta, row}
 use Rattle.rules.specs.Moves.{copied, filled, loaded}
 use Rattle.rules.specs.State.{with_pace, with_aim, with_newton, changed, turn, total+1, lu+1, rejected+1, After, after, Left, left}
 use Rattle.rules.specs.Predict.{predict, scaled, psied}
-use Rattle.rules.specs.Factor.{factored}
-use Rattle.rules.specs.declared.stages.Factors.{Factors}
-use Rattle.rules.specs.declared.stages.Aimed.{Aimed}
-use Rattle.rules.specs.declared.stages.Aimed.TheVariants.{At, AtEnd}
+use Rattle.rules.specs.Factor.{Factors, factored}
 
 -- ---- the step's size
 
@@ -50,19 +47,20 @@ aim_at direction order x h =
 abbrev pub aim_of : Progress → Float → Aim
 aim_of p h = aim_at p.span.direction p.order p.x h
 
+-- Where a step leads; `None` where the run is at its end already.
 -- A way that leads past xend is cut to what is left of it, which rounding may leave an ulp short or beyond; where nothing is left, the
 -- run is at its end
-unfoldable pub cut_at_end : Progress → List Float → Left Aimed
+unfoldable pub cut_at_end : Progress → List Float → Left (Option (Pace × Aim))
 cut_at_end p ws =
     let step_to_end = abs_of (p.span.xend ⊖ p.x) in
     let factor = step_to_end ⊘ p.pace.h in
     let h = p.pace.h ⊗ factor in
-    when Ieee.eq step_to_end +0 then left AtEnd ws else left (At (changed h) (aim_of p h)) (rescaled_d p.n p.order factor ws)
+    when Ieee.eq step_to_end +0 then left None ws else left (Some (changed h, aim_of p h)) (rescaled_d p.n p.order factor ws)
 
-unfoldable pub aimed : Progress → List Float → Left Aimed
+unfoldable pub aimed : Progress → List Float → Left (Option (Pace × Aim))
 aimed p ws =
     let a = aim_of p p.pace.h in
-    when Ieee.lt +0 (p.span.direction ⊗ (a.x_new ⊖ p.span.xend)) then cut_at_end p ws else left (At p.pace a) ws
+    when Ieee.lt +0 (p.span.direction ⊗ (a.x_new ⊖ p.span.xend)) then cut_at_end p ws else left (Some (p.pace, a)) ws
 
 -- ---- what an attempt comes to
 
@@ -162,9 +160,9 @@ unless_stuck p ws q =
     then after (says (end StepSizeTooSmall p)) ws q
     else attempt_at (total+1 p) ws q
 
-abbrev pub headed : Progress → Aimed → List Float → List Float → After Tried
-headed p AtEnd ws q = after (says (end Success p)) ws q
-headed p (At pace aim) ws q = unless_stuck (with_aim (with_pace p pace) aim) ws q
+abbrev pub headed : Progress → Option (Pace × Aim) → List Float → List Float → After Tried
+headed p None ws q = after (says (end Success p)) ws q
+headed p (Some (pace, aim)) ws q = unless_stuck (with_aim (with_pace p pace) aim) ws q
 
 -- the step between its bounds
 unfoldable pub fitted : Progress → List Float → Left Pace

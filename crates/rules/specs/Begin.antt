@@ -1,12 +1,12 @@
 -- The beginning: past the checks, what `solve` computes before its first derivative, and the first question.
-use Rattle.std.specs.Prelude.{List, ◌++◌, Bool, true, false, ℕ, max, ltb, eqb, length, take, drop, replicate, Float}
+use Rattle.std.specs.Prelude.{List, ◌++◌, Bool, true, false, ℕ, max, ltb, eqb, length, take, drop, replicate, Float, Option, None, Result, Ok, Err, ⊤, unwrap_or}
 use Rattle.std.specs.Float.Ieee
 use Rattle.std.specs.Float.{inf}
 use Rattle.loops.specs.Choice.{when◌then◌else◌}
 use Rattle.loops.specs.Loop.{loop}
 use Rattle.number.specs.Helpers.{abs_of, signum_of, min_of, max_of}
 use Rattle.roots.specs.Roots.{sqrt_of}
-use Rattle.rules.specs.Types.{Setting, Unset, Given, Tolerance, Scalar, Vector, TooManyComponents, Limits, Span, Progress, Turn, Refused, End, Success, Ended, FirstDerivative}
+use Rattle.rules.specs.Types.{Tolerance, Scalar, Vector, TooManyComponents, Limits, Span, Progress, Turn, Refused, End, Success, Ended, FirstDerivative, Refusal}
 use Rattle.loops.specs.Arithmetic.{◌⊖◌, ◌⊗◌, ◌⊘◌, +0}
 use Rattle.rules.specs.Literals.{ten, three_hundredths, nano}
 use Rattle.matrix.specs.Size.{max_n}
@@ -17,15 +17,8 @@ use Rattle.rules.specs.Checks.{entry, checked}
 use Rattle.rules.specs.State.{changed, turn, After, after}
 use Rattle.rules.specs.Reply.{ask_derivative}
 use Rattle.rules.specs.declared.settings.BDF.{BDF}
-use Rattle.rules.specs.declared.stages.Check.{Check}
-use Rattle.rules.specs.declared.stages.Check.TheVariants.{Refuse, Passed}
 
 -- ---- what the run keeps
-
--- `self.max_step.unwrap_or(..)`
-abbrev pub or_given : Setting → Float → Float
-or_given Unset other = other
-or_given (Given v) other = v
 
 -- the least relative tolerance, from infinity on
 unfoldable pub least_turn : Tolerance → List Float → ℕ → Float → Float
@@ -39,16 +32,16 @@ unfoldable pub derived_tol : Float → Float
 derived_tol rtol_min = max_of (ten ⊗ epsilon ⊘ rtol_min) (min_of (sqrt_of rtol_min) three_hundredths)
 
 -- newton_tol_val
-unfoldable pub newton_tol_val : Setting → Float → Float
-newton_tol_val given rtol_min = let t = or_given given (derived_tol rtol_min) in when Ieee.le t +0 then nano else t
+unfoldable pub newton_tol_val : Option Float → Float → Float
+newton_tol_val given rtol_min = let t = unwrap_or given (derived_tol rtol_min) in when Ieee.le t +0 then nano else t
 
 unfoldable pub span_of : BDF → Float → Float → Float → Span
 span_of s x0 xend rtol_min =
     record {
       xend = xend;
       direction = signum_of (xend ⊖ x0);
-      hmax = abs_of (or_given s.max_step (abs_of (xend ⊖ x0)));
-      hmin = abs_of (or_given s.min_step +0);
+      hmax = abs_of (unwrap_or s.max_step (abs_of (xend ⊖ x0)));
+      hmin = abs_of (unwrap_or s.min_step +0);
       newton_tol = newton_tol_val s.newton_tol rtol_min;
       first_step = s.first_step;
     }
@@ -86,7 +79,7 @@ kept s n x0 xend r rs =
 abbrev pub nothing : Progress
 nothing =
     fresh 0 (record { steps = 1; newton = 1; guarded = 0 })
-    (record { xend = +0; direction = +0; hmax = +0; hmin = +0; newton_tol = +0; first_step = Unset }) +0
+    (record { xend = +0; direction = +0; hmax = +0; hmin = +0; newton_tol = +0; first_step = None }) +0
 
 -- ---- the workspace at the beginning: zeros, then y, rtol and atol
 
@@ -113,9 +106,9 @@ begin_run s x0 y0 xend r rs a als ws q =
 
 -- a refused beginning changes nothing and hands back a state that has ended
 abbrev pub begin_turn :
-    BDF → Float → List Float → Float → Tolerance → List Float → Tolerance → List Float → Check → List Float → List Float → After Turn
-begin_turn s x0 y0 xend r rs a als (Refuse why) ws q = after (turn (Refused why) Ended nothing) ws q
-begin_turn s x0 y0 xend r rs a als Passed ws q = begin_run s x0 y0 xend r rs a als ws q
+    BDF → Float → List Float → Float → Tolerance → List Float → Tolerance → List Float → Result ⊤ Refusal → List Float → List Float → After Turn
+begin_turn s x0 y0 xend r rs a als (Err why) ws q = after (turn (Refused why) Ended nothing) ws q
+begin_turn s x0 y0 xend r rs a als (Ok tt) ws q = begin_run s x0 y0 xend r rs a als ws q
 
 unfoldable pub begin_of : BDF → Float → List Float → Float → Tolerance → List Float → Tolerance → List Float → List Float → List Float → After Turn
 begin_of s x0 y0 xend r rs a als ws q =

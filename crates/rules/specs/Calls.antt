@@ -1,16 +1,15 @@
 -- What is handed over to a beginning and to a call, and what comes back: a configuration and a call as one thing each, for what is
 -- said of whole runs.
-use Rattle.std.specs.Prelude.{◌≡◌, List, ℕ, ◌≤◌, length, take, Float}
+use Rattle.std.specs.Prelude.{◌≡◌, List, ℕ, ◌≤◌, length, take, Float, Result, ⊤}
 use Rattle.loops.specs.Arithmetic.{◌⊖◌}
 use Rattle.number.specs.Helpers.{signum_of}
-use Rattle.rules.specs.Types.{Tolerance, Reply, Run, Turn}
+use Rattle.rules.specs.Types.{Tolerance, Reply, Run, Turn, Refusal}
 use Rattle.rules.specs.Places.{need}
 use Rattle.rules.specs.State.{After}
 use Rattle.rules.specs.Checks.{checked}
 use Rattle.rules.specs.Begin.{begin_run, begin_turn, begin_of}
 use Rattle.rules.specs.GoOn.{go_checked, go_within, go_turn, go_on_of}
 use Rattle.rules.specs.declared.settings.BDF.{BDF}
-use Rattle.rules.specs.declared.stages.Check.{Check}
 
 -- ---- beginning
 
@@ -34,11 +33,11 @@ abbrev pub beginning : Configuration → List Float → List Float → After Tur
 beginning c ws q = begin_of c.settings c.x0 c.y0 c.xend c.rtol c.rtols c.atol c.atols ws q
 
 -- what the checks say to it; what it leaves, by what they say; and where they pass
-abbrev pub beginning_checked : Configuration → List Float → List Float → Check
+abbrev pub beginning_checked : Configuration → List Float → List Float → Result ⊤ Refusal
 beginning_checked c ws q =
     checked c.settings (length c.y0) (direction c) c.rtol c.rtols c.atol c.atols (length ws) (length q)
 
-abbrev pub beginning_turn : Configuration → Check → List Float → List Float → After Turn
+abbrev pub beginning_turn : Configuration → Result ⊤ Refusal → List Float → List Float → After Turn
 beginning_turn c k ws q = begin_turn c.settings c.x0 c.y0 c.xend c.rtol c.rtols c.atol c.atols k ws q
 
 abbrev pub beginning_passed : Configuration → List Float → List Float → After Turn
@@ -56,10 +55,10 @@ pub record Call : Type 0 where
 abbrev pub going_on : Run → Call → After Turn
 going_on run call = go_on_of run call.reply call.values call.ws call.q
 
-abbrev pub going_on_checked : Run → Call → Check
+abbrev pub going_on_checked : Run → Call → Result ⊤ Refusal
 going_on_checked run call = go_checked run.awaited run.at call.reply (length call.values) (length call.ws) (length call.q)
 
-abbrev pub going_on_turn : Run → Call → Check → After Turn
+abbrev pub going_on_turn : Run → Call → Result ⊤ Refusal → After Turn
 going_on_turn run call k = go_turn run call.reply call.values k call.ws call.q
 
 abbrev pub going_on_passed : Run → Call → After Turn

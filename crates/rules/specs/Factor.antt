@@ -8,7 +8,6 @@ use Rattle.matrix.specs.Lu.{lu_decomp_of}
 use Rattle.loops.specs.Arithmetic.{◌⊕◌, ◌⊗◌, one}
 use Rattle.rules.specs.Places.{jac, lu, put_lu}
 use Rattle.rules.specs.State.{Left, left}
-use Rattle.rules.specs.declared.stages.Factors.{Factors}
 
 -- lu_matrix[(r, j)] = -c * jac[(r, j)]
 unfoldable pub matrix_turn : ℕ → Float → ℕ → ℕ → List Float → List Float
@@ -31,6 +30,11 @@ matrix n c ws = loop 0 n (matrix_row n c) ws
 abbrev pub went : {A : Type 0} → Outcome A → Bool
 went (gives a) = true
 went (refuses k) = false
+
+-- a factoring's pivots, and whether the matrix was regular
+pub record Factors : Type 0 where
+  pub ok : Bool
+  pub pivot : List ℕ
 
 -- `lu_decomp(&mut lu_matrix, &mut pivot)`: the run's pivots are the first n of an array
 unfoldable pub factored : ℕ → Float → List ℕ → List Float → Left Factors

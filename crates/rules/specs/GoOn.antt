@@ -1,17 +1,13 @@
 -- Going on: the checks on what is handed back, in their order, then the run from the reply to its next answer.
-use Rattle.std.specs.Prelude.{List, ◌++◌, Bool, true, false, not, ◌&&◌, ◌||◌, ℕ, ◌+◌, ◌-◌, ◌*◌, leb, ltb, eqb, length, take, drop, get_or, Float}
+use Rattle.std.specs.Prelude.{List, ◌++◌, Bool, true, false, not, ◌&&◌, ◌||◌, ℕ, ◌+◌, ◌-◌, ◌*◌, leb, ltb, eqb, length, take, drop, get_or, Float, Option, Some, None, Result, Ok, Err, ⊤}
 use Rattle.loops.specs.Choice.{when◌then◌else◌}
 use Rattle.loops.specs.Loop.{loop}
-use Rattle.rules.specs.Types.{Reply, Awaited, Damaged, HasEnded, WrongReply, SliceShort, Progress, Run, Turn, Refused}
+use Rattle.rules.specs.Types.{Reply, Awaited, Damaged, HasEnded, WrongReply, SliceShort, Progress, Run, Turn, Refused, Refusal}
 use Rattle.matrix.specs.Size.{max_n}
 use Rattle.rules.specs.Places.{need}
 use Rattle.rules.specs.State.{After, after}
 use Rattle.rules.specs.Replies.{awaits_newton, is_ended, wants}
-use Rattle.rules.specs.declared.stages.Wants.{Wants}
-use Rattle.rules.specs.declared.stages.Wants.TheVariants.{Count, Unsuited}
 use Rattle.rules.specs.Reply.{replied}
-use Rattle.rules.specs.declared.stages.Check.{Check}
-use Rattle.rules.specs.declared.stages.Check.TheVariants.{Refuse, Passed}
 
 -- ---- damage, exactly the list of docs/RULES.md
 
@@ -56,15 +52,15 @@ damaged w p = when ltb max_n p.n then true else when eqb p.n 0 then not (is_ende
 -- ---- the checks and the whole
 
 -- the reply's kind, then the slices
-abbrev pub count_checked : Wants → ℕ → ℕ → ℕ → ℕ → Check
-count_checked Unsuited n values room questions = Refuse WrongReply
-count_checked (Count k) n values room questions =
-    when (ltb room (need n) || (ltb questions (8 * n) || ltb values k)) then Refuse SliceShort else Passed
+abbrev pub count_checked : Option ℕ → ℕ → ℕ → ℕ → ℕ → Result ⊤ Refusal
+count_checked None n values room questions = Err WrongReply
+count_checked (Some k) n values room questions =
+    when (ltb room (need n) || (ltb questions (8 * n) || ltb values k)) then Err SliceShort else Ok tt
 
-unfoldable pub go_checked : Awaited → Progress → Reply → ℕ → ℕ → ℕ → Check
+unfoldable pub go_checked : Awaited → Progress → Reply → ℕ → ℕ → ℕ → Result ⊤ Refusal
 go_checked w p r values room questions =
-    when damaged w p then Refuse Damaged
-    else when is_ended w then Refuse HasEnded
+    when damaged w p then Err Damaged
+    else when is_ended w then Err HasEnded
     else count_checked (wants p.n w r) p.n values room questions
 
 -- the run from the reply to its next answer, on the needed places alone: what lies beyond them stays
@@ -74,9 +70,9 @@ go_within w p r values ws q =
     after g.is (g.ws ++ drop (need p.n) ws) g.q
 
 -- a refusal hands back the state that it was given
-abbrev pub go_turn : Run → Reply → List Float → Check → List Float → List Float → After Turn
-go_turn run r values (Refuse why) ws q = after (record { answer = Refused why; run = run }) ws q
-go_turn run r values Passed ws q = go_within run.awaited run.at r values ws q
+abbrev pub go_turn : Run → Reply → List Float → Result ⊤ Refusal → List Float → List Float → After Turn
+go_turn run r values (Err why) ws q = after (record { answer = Refused why; run = run }) ws q
+go_turn run r values (Ok tt) ws q = go_within run.awaited run.at r values ws q
 
 unfoldable pub go_on_of : Run → Reply → List Float → List Float → List Float → After Turn
 go_on_of run r values ws q = go_turn run r values (go_checked run.awaited run.at r (length values) (length ws) (length q)) ws q

@@ -1,8 +1,8 @@
 -- A run's history: what a caller is given from the beginning on, whatever is replied. The theorems over whole runs are about it:
 -- `EndMeans`, `Demand3`, `NeverDamaged` and `RunEnds`.
-use Rattle.std.specs.Prelude.{◌≡◌, List, [], ◌∷◌, Bool, true, false, ◌&&◌, ℕ, ◌+◌, ltb, length, Float}
+use Rattle.std.specs.Prelude.{◌≡◌, List, [], ◌∷◌, Bool, true, false, ◌&&◌, ℕ, ◌+◌, ltb, length, Float, is_none}
 use Rattle.loops.specs.Choice.{when◌then◌else◌}
-use Rattle.rules.specs.Types.{Setting, Unset, Given, Answer, Run, Turn}
+use Rattle.rules.specs.Types.{Answer, Run, Turn}
 use Rattle.rules.specs.Answers.{is_derivative, is_jacobian, is_start, is_step, is_refused, is_question_or_notice}
 use Rattle.rules.specs.Calls.{Configuration, beginning, Call, going_on}
 
@@ -54,11 +54,7 @@ questions_and_notices h = tally is_question_or_notice h
 
 -- ---- the derivative of an automatic start
 
-abbrev pub is_unset : Setting → Bool
-is_unset Unset = true
-is_unset (Given h) = false
-
 -- 1 where it was asked, else 0: `first_step` is unset, n is above 0, and the history has come past its first two questions, the first
 -- derivative and the first Jacobian
 unfoldable pub automatic_start : Configuration → List Answer → ℕ
-automatic_start c h = when is_unset c.settings.first_step && (ltb 0 (length c.y0) && ltb 2 (length h)) then 1 else 0
+automatic_start c h = when is_none c.settings.first_step && (ltb 0 (length c.y0) && ltb 2 (length h)) then 1 else 0

@@ -1,9 +1,7 @@
 -- What a place of the run waits for, which replies suit it, and how many values they bring; and which answers ask for that.
-use Rattle.std.specs.Prelude.{◌≡◌, Bool, true, false, ℕ, ◌*◌}
+use Rattle.std.specs.Prelude.{◌≡◌, Bool, true, false, ℕ, ◌*◌, Option, Some, None}
 use Rattle.rules.specs.Types.{Reply, Values, Continue, Interrupt, Modified, Awaited, FirstDerivative, FirstJacobian, StartDerivative, StartNotice, ModifiedStartDerivative, ModifiedStartJacobian, NewtonDerivative, FailedJacobian, StepNotice, ModifiedStepDerivative, ModifiedStepJacobian, OrderJacobian, Ended}
 use Rattle.rules.specs.Types.{Answer, Derivative, Jacobian, Start, Step, End, Refused}
-use Rattle.rules.specs.declared.stages.Wants.{Wants}
-use Rattle.rules.specs.declared.stages.Wants.TheVariants.{Count, Unsuited}
 
 -- ---- two questions about a place
 
@@ -37,24 +35,24 @@ is_ended ModifiedStepJacobian = false
 is_ended OrderJacobian = false
 is_ended Ended = true
 
--- ---- the reply
+-- ---- the reply: how many values one that suits must bring; `None` where it does not suit
 
 -- a question wants values, so many
-abbrev pub values_want : ℕ → Reply → Wants
-values_want count Values = Count count
-values_want count Continue = Unsuited
-values_want count Interrupt = Unsuited
-values_want count (Modified x) = Unsuited
+abbrev pub values_want : ℕ → Reply → Option ℕ
+values_want count Values = Some count
+values_want count Continue = None
+values_want count Interrupt = None
+values_want count (Modified x) = None
 
 -- a notice wants a word, and a modification brings the new state
-abbrev pub word_wants : ℕ → Reply → Wants
-word_wants n Values = Unsuited
-word_wants n Continue = Count 0
-word_wants n Interrupt = Count 0
-word_wants n (Modified x) = Count n
+abbrev pub word_wants : ℕ → Reply → Option ℕ
+word_wants n Values = None
+word_wants n Continue = Some 0
+word_wants n Interrupt = Some 0
+word_wants n (Modified x) = Some n
 
 -- A derivative is n values, a Jacobian n * n. The last case cannot be met: a run that has ended was refused (10) before.
-abbrev pub wants : ℕ → Awaited → Reply → Wants
+abbrev pub wants : ℕ → Awaited → Reply → Option ℕ
 wants n FirstDerivative r = values_want n r
 wants n FirstJacobian r = values_want (n * n) r
 wants n StartDerivative r = values_want n r
@@ -73,13 +71,13 @@ wants n Ended r = word_wants n r
 
 -- what a reply to an answer of a run of n components has to bring: to a question values, to a notice a word. Nothing suits an end
 -- or a refusal
-abbrev pub asks_for : ℕ → Answer → Reply → Wants
+abbrev pub asks_for : ℕ → Answer → Reply → Option ℕ
 asks_for n (Derivative x) r = values_want n r
 asks_for n (Jacobian x) r = values_want (n * n) r
 asks_for n (Start x) r = word_wants n r
 asks_for n (Step old new start h) r = word_wants n r
-asks_for n (End status h) r = Unsuited
-asks_for n (Refused why) r = Unsuited
+asks_for n (End status h) r = None
+asks_for n (Refused why) r = None
 
 -- the place w waits for just what the answer asks for. At an end the run has ended; a refusal asks nothing
 abbrev pub Awaits : ℕ → Answer → Awaited → Type 0

@@ -1,10 +1,10 @@
 -- A run from one reply to the next answer, by the place in `solve` at which it waited.
-use Rattle.std.specs.Prelude.{List, false, ℕ, ◌*◌, ltb, eqb, Float}
+use Rattle.std.specs.Prelude.{List, false, ℕ, ◌*◌, ltb, eqb, Float, Option, Some, None}
 use Rattle.std.specs.Float.Ieee
 use Rattle.loops.specs.Choice.{when◌then◌else◌}
 use Rattle.loops.specs.Loop.{loop}
 use Rattle.number.specs.Helpers.{abs_of, min_of, max_of}
-use Rattle.rules.specs.Types.{Progress, Turn, Reply, Awaited, Setting, Unset, Given, Values, Continue, Interrupt, Modified, Derivative, Jacobian, Start, Success, UserInterrupt, FirstDerivative, FirstJacobian, StartDerivative, StartNotice, ModifiedStartDerivative, ModifiedStartJacobian, NewtonDerivative, FailedJacobian, StepNotice, ModifiedStepDerivative, ModifiedStepJacobian, OrderJacobian, Ended}
+use Rattle.rules.specs.Types.{Progress, Turn, Reply, Awaited, Values, Continue, Interrupt, Modified, Derivative, Jacobian, Start, Success, UserInterrupt, FirstDerivative, FirstJacobian, StartDerivative, StartNotice, ModifiedStartDerivative, ModifiedStartJacobian, NewtonDerivative, FailedJacobian, StepNotice, ModifiedStepDerivative, ModifiedStepJacobian, OrderJacobian, Ended}
 use Rattle.loops.specs.Arithmetic.{◌⊕◌, ◌⊖◌, ◌⊗◌, +0}
 use Rattle.rules.specs.Literals.{min_positive}
 use Rattle.rules.specs.Places.{d, y, f0, f1, y1, row, get, put}
@@ -58,9 +58,9 @@ hinit_asks p ws q =
     let w = euler p.n h ws in
     after (turn (Derivative (p.x ⊕ h)) StartDerivative (start_asked p)) w (told p.n y1 w q)
 
-unfoldable pub first_step : Progress → Setting → List Float → List Float → After Turn
-first_step p Unset ws q = hinit_asks p ws q
-first_step p (Given h) ws q = started p (abs_of h) ws q
+unfoldable pub first_step : Progress → Option Float → List Float → List Float → After Turn
+first_step p None ws q = hinit_asks p ws q
+first_step p (Some h) ws q = started p (abs_of h) ws q
 
 -- `ode` does not count this derivative
 unfoldable pub hinit_replied : Progress → List Float → List Float → List Float → After Turn

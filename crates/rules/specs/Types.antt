@@ -1,6 +1,4 @@
 -- The types of the code under one name, for the definitions that use them.
-pub use Rattle.rules.specs.declared.types.Setting.{Setting}
-pub use Rattle.rules.specs.declared.types.Setting.TheVariants.{Unset, Given}
 pub use Rattle.rules.specs.declared.types.Tolerance.{Tolerance}
 pub use Rattle.rules.specs.declared.types.Tolerance.TheVariants.{Scalar, Vector}
 pub use Rattle.rules.specs.declared.types.Status.{Status}

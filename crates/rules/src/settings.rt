@@ -2,16 +2,14 @@
 ghost use Rattle.std.specs.Prelude.{◌≡◌};
 ghost use Rattle.rules.specs.Settings.{defaults};
 
-use crate::types::Setting;
-
 #[derive(Clone, Copy)]
 pub struct BDF {
     pub max_steps: usize,
-    pub max_step: Setting,
-    pub min_step: Setting,
+    pub max_step: Option<f64>,
+    pub min_step: Option<f64>,
     pub newton_maxiter: usize,
-    pub newton_tol: Setting,
-    pub first_step: Setting,
+    pub newton_tol: Option<f64>,
+    pub first_step: Option<f64>,
     // Not the Rust's (02 §8): an error norm that is NaN rejects its attempt, where the Rust lets it pass.
     pub guarded: bool,
 }
@@ -22,11 +20,11 @@ impl BDF {
     {
         BDF {
             max_steps: 100000,
-            max_step: Setting::Unset,
-            min_step: Setting::Unset,
+            max_step: None,
+            min_step: None,
             newton_maxiter: 4,
-            newton_tol: Setting::Unset,
-            first_step: Setting::Unset,
+            newton_tol: None,
+            first_step: None,
             guarded: false,
         }
     }

@@ -5,13 +5,6 @@ ghost use Rattle.rules.specs.Counters.{no_evals, no_steps};
 
 use matrix::MAX_N;
 
-// A setting that the Rust holds as an Option<Float>.
-#[derive(Clone, Copy)]
-pub enum Setting {
-    Unset,
-    Given(f64),
-}
-
 // One number for every component, or one each in a slice that is lent beside it.
 #[derive(Clone, Copy)]
 pub enum Tolerance {
@@ -19,7 +12,7 @@ pub enum Tolerance {
     Vector,
 }
 
-#[derive(Clone, Copy)]
+#[derive(Clone, Copy, PartialEq, Eq)]
 pub enum Status {
     Success,
     UserInterrupt,
@@ -33,24 +26,14 @@ impl Status {
     pub fn is_success(self) -> bool
         ensures { result ≡ is_success_of self }
     {
-        match self {
-            Status::Success => true,
-            Status::UserInterrupt => true,
-            Status::NeedLargerNMax => false,
-            Status::StepSizeTooSmall => false,
-        }
+        matches!(self, Status::Success | Status::UserInterrupt)
     }
 
     // Whether the run came to xend: true for Success alone. This is the question to ask.
     pub fn reached(self) -> bool
         ensures { result ≡ reached_of self }
     {
-        match self {
-            Status::Success => true,
-            Status::UserInterrupt => false,
-            Status::NeedLargerNMax => false,
-            Status::StepSizeTooSmall => false,
-        }
+        self == Status::Success
     }
 }
 
@@ -131,8 +114,8 @@ pub enum Awaited {
     Ended,
 }
 
-// What bounds the attempts: max_steps, the Newton limit with 0 already read as 1, and 1 where the run is guarded, otherwise 0 (a number
-// and no bool: it is copied with the others, and a bool would cost a run up to 6 in a hundred of its time).
+// What bounds the attempts: max_steps, the Newton limit with 0 already read as 1, and 1 where the run is guarded, otherwise 0.
+// Stays a number: `go_on` answers on every state, one whose `guarded` is 2 too (unguarded, by `is_guarded`), which a bool would exclude.
 #[derive(Clone, Copy)]
 pub struct Limits {
     pub steps: usize,
@@ -141,18 +124,18 @@ pub struct Limits {
 }
 
 // What stays as the beginning computed it.
-#[derive(Clone, Copy)]
+#[derive(Clone, Copy, Default)]
 pub struct Span {
     pub xend: f64,
     pub direction: f64,
     pub hmax: f64,
     pub hmin: f64,
     pub newton_tol: f64,
-    pub first_step: Setting,
+    pub first_step: Option<f64>,
 }
 
 // As in the Rust, and beside it `start`: 1 once the automatic start has asked its derivative, which `ode` does not count.
-#[derive(Clone, Copy)]
+#[derive(Clone, Copy, Default)]
 pub struct Evals {
     pub ode: usize,
     pub jac: usize,
@@ -165,16 +148,11 @@ impl Evals {
     pub fn new() -> Self
         ensures { result ≡ no_evals }
     {
-        Evals {
-            ode: 0,
-            jac: 0,
-            lu: 0,
-            start: 0,
-        }
+        Evals::default()
     }
 }
 
-#[derive(Clone, Copy)]
+#[derive(Clone, Copy, Default)]
 pub struct Steps {
     pub total: usize,
     pub accepted: usize,
@@ -186,16 +164,12 @@ impl Steps {
     pub fn new() -> Self
         ensures { result ≡ no_steps }
     {
-        Steps {
-            total: 0,
-            accepted: 0,
-            rejected: 0,
-        }
+        Steps::default()
     }
 }
 
 // current_h, n_equal_steps and lu_is_current of the Rust.
-#[derive(Clone, Copy)]
+#[derive(Clone, Copy, Default)]
 pub struct Pace {
     pub h: f64,
     pub equal_steps: usize,
@@ -203,7 +177,7 @@ pub struct Pace {
 }
 
 // Where the attempt under way leads.
-#[derive(Clone, Copy)]
+#[derive(Clone, Copy, Default)]
 pub struct Aim {
     pub h_signed: f64,
     pub x_start: f64,
@@ -212,7 +186,8 @@ pub struct Aim {
 }
 
 // The Newton iteration under way, and what its end left for the order's choice. `prev` counts once iters is above 0.
-#[derive(Clone, Copy)]
+// Stays beside its count: an Option would say again what iters says, and in a state that was forged the two could contradict each other.
+#[derive(Clone, Copy, Default)]
 pub struct Newton {
     pub iters: usize,
     pub prev: f64,

@@ -4,6 +4,7 @@
 
 use job::CELLS;
 use listing::{Listing, QUESTION, Said, WORKSPACE};
+use std::fmt;
 use std::io::{Read, Stdin, Stdout};
 
 // One byte more than the longest job has shows that a file is too long; no more of it is read.
@@ -12,55 +13,67 @@ const ENOUGH: usize = job::LONGEST + 1;
 // The bytes of a page: many, so that few calls write a listing.
 const PAGE: usize = 65536;
 
+#[derive(Clone, Copy)]
+enum Failure {
+    NotRead,
+    NotWritten,
+}
+
+impl fmt::Display for Failure {
+    fn fmt<W: fmt::Write>(&self, f: &mut fmt::Formatter<W>) -> fmt::Result {
+        f.write_str(match self {
+            Failure::NotRead => "standard input was not read",
+            Failure::NotWritten => "standard output was not written",
+        })
+    }
+}
+
 fn main(rt: HostRuntime) {
+    if let Err(failure) = run(&rt) {
+        let _ = eprintln!(rt; "run_job: {failure}");
+    }
+}
+
+fn run(rt: &HostRuntime) -> Result<(), Failure> {
+    // Stays four arrays: a struct of them is copied whole where it is made, over 40 KB, which a short job feels.
     let mut file = [0u8; ENOUGH];
     let mut a = [0.0f64; CELLS];
     let mut ws = [0.0f64; WORKSPACE];
     let mut q = [0.0f64; QUESTION];
     let len = input::full(&mut rt.stdin(), &mut file);
     if len < ENOUGH && !is_at_end(rt.stdin()) {
-        let _ = rt.eprintln("run_job: standard input was not read");
-        return;
+        return Err(Failure::NotRead);
     }
     let first = listing::open(&file[..len], &mut a, &mut ws, &mut q);
-    if !print(rt.stdout(), first, &a, &mut ws, &mut q) {
-        let _ = rt.eprintln("run_job: standard output was not written");
-    }
+    print(rt.stdout(), first, &a, &mut ws, &mut q)
 }
 
 // Whether there is nothing more to read: a read that fails stops as the end does, and only the end gives nothing without failing.
 fn is_at_end(mut from: Stdin) -> bool {
-    let mut rest = [0u8; 1];
-    matches!(from.read(&mut rest), Ok(0))
+    matches!(from.read(&mut [0u8; 1]), Ok(0))
 }
 
 // Every page of a listing. That its pages end, and that each has a line, is proved of the listing and not used here: the pages are
-// counted down from a number that no job uses up, and one without a line would be taken for one that was not written.
+// counted up to a number that no job uses up, and one without a line would be taken for one that was not written.
 fn print(
     to: Stdout,
     first: Listing,
     a: &[f64; CELLS],
     ws: &mut [f64; WORKSPACE],
     q: &mut [f64; QUESTION],
-) -> bool {
+) -> Result<(), Failure> {
     let mut out = [0u8; PAGE];
     let mut l = first;
-    let mut written = true;
-    let mut left = u64::MAX;
-    while left > 0 && written && !is_over(l) {
+    for _ in 0..u64::MAX {
+        if matches!(l.said, Said::Over) {
+            return Ok(());
+        }
         let page = listing::next_page(l, a, ws, q, &mut out);
-        let length = page.length;
-        written = length > 0 && to.write_all(&out[..length]).is_ok();
+        let text = &out[..page.length];
+        if text.is_empty() || to.write_all(text).is_err() {
+            break;
+        }
         l = page.listing;
-        left -= 1;
     }
-    written && is_over(l)
-}
-
-fn is_over(l: Listing) -> bool {
-    let said = l.said;
-    match said {
-        Said::Over => true,
-        _ => false,
-    }
+    Err(Failure::NotWritten)
 }

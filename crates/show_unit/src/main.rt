@@ -4,7 +4,8 @@
 
 ghost use Rattle.std.specs.Prelude.{◌≤◌};
 
-use text::Place;
+use std::fmt::Write;
+use text::Page;
 use unit::unit_r;
 
 // Room for all twenty rows: fewer than 2,000 bytes.
@@ -12,60 +13,34 @@ const PAGE: usize = 4096;
 
 fn main(rt: HostRuntime) {
     let mut out = [0u8; PAGE];
-    let end = tables(&mut out);
-    if !text::stands(output::flush(&mut rt.stdout(), &out, end)) {
+    let mut page = Page::new(&mut out);
+    let u = unit_r();
+    for order in 1..=5 {
+        put_table(&mut page, &u, order);
+    }
+    output::flush(&mut rt.stdout(), &mut page);
+    if page.is_full() {
         let _ = rt.eprintln("show_unit: standard output was not written");
     }
 }
 
-// One after the other, from the page's beginning.
-fn tables(out: &mut [u8]) -> Place {
-    let u = unit_r();
-    let mut at = Place::At(0);
-    for order in 1..6 {
-        at = table(out, at, &u, order);
-    }
-    at
-}
-
 // The rows of an order.
-fn table(out: &mut [u8], place: Place, u: &[f64; 36], order: usize) -> Place
+fn put_table(page: &mut Page, u: &[f64; 36], order: usize)
     requires { order ≤ 5 }
 {
-    let mut at = place;
-    for i in 0..order + 1 {
-        at = row(out, at, u, order, i);
+    for i in 0..=order {
+        let first = 6 * i;
+        put_row(page, order, i, &u[first..=first + order]);
     }
-    at
 }
 
-fn row(out: &mut [u8], place: Place, u: &[f64; 36], order: usize, i: usize) -> Place
-    requires { (order ≤ 5) × (i ≤ order) }
-{
-    let head = text::put_byte(out, place, b'U');
-    let which = number(out, head, order);
-    let at = number(out, which, i);
-    let end = entries(out, at, u, order, i * 6);
-    text::put_byte(out, end, b'\n')
-}
-
-// The first order + 1 entries of a row that begins at `first`, each after a space.
-fn entries(out: &mut [u8], place: Place, u: &[f64; 36], order: usize, first: usize) -> Place
-    requires { (order ≤ 5) × (first ≤ 30) }
-{
-    let mut at = place;
-    for j in 0..order + 1 {
-        at = entry(out, at, u[first + j]);
+// A row's entries, each after a space.
+fn put_row(page: &mut Page, order: usize, i: usize, entries: &[f64]) {
+    // A page without room for it is full, and says so when it is written out.
+    let _ = write!(page, "U {order} {i}");
+    for &x in entries {
+        page.put_byte(b' ');
+        page.put_double(x);
     }
-    at
-}
-
-fn entry(out: &mut [u8], place: Place, x: f64) -> Place {
-    let at = text::put_byte(out, place, b' ');
-    text::put_double(out, at, x)
-}
-
-fn number(out: &mut [u8], place: Place, n: usize) -> Place {
-    let at = text::put_byte(out, place, b' ');
-    text::put_count(out, at, n as u64)
+    page.put_byte(b'\n');
 }

@@ -1,46 +1,40 @@
--- Counting the decimal digits of a number, one division at a time. What is left, with as many digits as may still come, has
--- the digits that the number has beyond those counted; and it is small enough that the count ends within twenty.
-use mathlib.Core.Path.{◌≡◌, refl}
-use Prim.Native.Nat.{ℕ, zero, suc, ◌+◌, ◌*◌, ◌/◌, ◌^◌, ◌≤◌, ◌<◌}
-use native.Mathlib.Nat.{pow-suc}
-use native.Mathlib.Omega.{arith}
-use borrow.Author.Tests.{lt-ltb, le-ltb}
+-- A number between one power of ten and the next has so many decimal digits: by induction, a division by ten takes one of both.
+use Rattle.std.proofs.Common.{◌≡◌, refl, ℕ, zero, suc, ◌+◌, ◌*◌, ◌/◌, ◌^◌, ◌≤◌, ◌<◌, max, arith, pow-suc}
+use Rattle.std.proofs.lemmas.Bool.{lt-ltb, le-ltb}
 use Rattle.loops.specs.laws.ChoiceLaws.{when_true, when_false}
 use Rattle.text.specs.Digits.{places_within, places_of}
 
--- k digits of n are counted, and `rest` is what is left
-pub record Counted (n k rest : ℕ) : Type 0 where
-  pub more : ℕ
-  pub within : k + more ≡ 20
-  pub small : rest < 10 ^ suc more
-  pub is : places_within more rest + k ≡ places_of n + 1
-
-pub count_starts : (n : ℕ) → n < 2 ^ 64 → Counted n 1 n
-count_starts n h = record { more = 19; within = refl; small = omega arith; is = refl }
-
--- the last digit
-places_last : (more rest : ℕ) → rest < 10 → places_within more rest ≡ 1
+places_last : (more n : ℕ) → n < 10 → places_within more n ≡ 1
 unfolding places_within
-places_last zero rest h = refl
-places_last (suc more) rest h = when_true _ _ (lt-ltb rest 10 h)
+places_last zero n h = refl
+places_last (suc more) n h = when_true _ _ (lt-ltb n 10 h)
 
-pub count_ends : {n k rest : ℕ} → Counted n k rest → rest < 10 → k ≡ places_of n
-count_ends {k = k} {rest = rest} r h =
-    let one : places_within r.more rest ≡ 1 = places_last r.more rest h in
-    let e = r.is in
+places_more : (more n : ℕ) → 10 ≤ n → places_within (suc more) n ≡ places_within more (n / 10) + 1
+unfolding places_within
+places_more more n h = when_false _ _ (le-ltb n 10 h)
+
+ten_pow_pos : (k : ℕ) → 0 < 10 ^ k
+ten_pow_pos zero = omega arith
+ten_pow_pos (suc k) = let e : 10 ^ suc k ≡ 10 ^ k * 10 = pow-suc 10 k in let h : 0 < 10 ^ k = ten_pow_pos k in omega arith
+
+between : (more k n : ℕ) → 10 ^ k ≤ n → n < 10 * 10 ^ k → k ≤ more → places_within more n ≡ k + 1
+between more zero n low high h = places_last more n (omega arith)
+between zero (suc k) n low high h = elim h [ ]
+between (suc more) (suc k) n low high h =
+    let e : 10 ^ suc k ≡ 10 ^ k * 10 = pow-suc 10 k in
+    let p : 0 < 10 ^ k = ten_pow_pos k in
+    let rest : places_within more (n / 10) ≡ k + 1 = between more k (n / 10) (omega arith) (omega arith) (omega arith) in
+    let one : places_within (suc more) n ≡ places_within more (n / 10) + 1 = places_more more n (omega arith) in
     omega arith
 
--- one digit more
-places_more : (more rest : ℕ) → 10 ≤ rest → places_within (suc more) rest ≡ places_within more (rest / 10) + 1
-unfolding places_within
-places_more more rest h = when_false _ _ (le-ltb rest 10 h)
-
-goes_on : {n k rest : ℕ} (more : ℕ) → k + more ≡ 20 → rest < 10 ^ suc more → places_within more rest + k ≡ places_of n + 1 → 10 ≤ rest → (k < 20) × Counted n (k + 1) (rest / 10)
-goes_on zero w s e h = absurd (omega arith)
-goes_on {n} {k} {rest} (suc more) w s e h =
-    let one : places_within (suc more) rest ≡ places_within more (rest / 10) + 1 = places_more more rest h in
-    let p : 10 ^ suc (suc more) ≡ 10 ^ suc more * 10 = pow-suc 10 (suc more) in
-    (omega arith, record { more = more; within = omega arith; small = omega arith; is = omega arith })
-
-pub count_goes_on : {n k rest : ℕ} → Counted n k rest → 10 ≤ rest → (k < 20) × Counted n (k + 1) (rest / 10)
-count_goes_on r h = goes_on r.more r.within r.small r.is h
+-- none is counted as one
+pub places_of_power : (k n m : ℕ) → m ≡ max n 1 → 10 ^ k ≤ m → m < 10 * 10 ^ k → k < 20 → k + 1 ≡ places_of n
+places_of_power k zero m e low high h =
+    let p : 0 < 10 ^ k = ten_pow_pos k in
+    let one : places_within 19 0 ≡ 1 = places_last 19 0 (omega arith) in
+    let t : places_within 19 1 ≡ k + 1 = between 19 k 1 (omega arith) (omega arith) (omega arith) in
+    let u : places_within 19 1 ≡ 1 = places_last 19 1 (omega arith) in
+    omega arith
+places_of_power k (suc n) m e low high h =
+    let t : places_within 19 (suc n) ≡ k + 1 = between 19 k (suc n) (omega arith) (omega arith) (omega arith) in
+    omega arith

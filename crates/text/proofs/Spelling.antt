@@ -1,33 +1,28 @@
--- Digits that are written from the last to the first are the digits that stand from the first to the last: spelled as text, or as bytes.
+-- Digits that are written from the last to the first are the row of digits that stands from the first to the last, in any notation.
 -- By induction on how many there are: the first one written is the last of the row, and no later one touches it.
-use mathlib.Core.Path.{◌≡◌, sym, ◌∙◌}
-use mathlib.Core.List.{List, [], ◌∷◌, ◌++◌}
-use Prim.Native.Nat.{ℕ, zero, suc, ◌+◌, ◌-◌, ◌/◌, ◌%◌, ◌≤◌, ◌<◌}
-use native.Mathlib.Nat.{add-zero, add-suc}
-use native.Mathlib.Omega.{arith}
-use lib.ListN.{length, take, drop, set, length-set, take-append-drop}
-use lib.Seq.{append_snoc, drop-cons, get_or-set_same, take-set-le, drop-set-lt}
-use Rattle.text.specs.Digits.{digit, spelled}
-use Rattle.text.specs.Words.{bytes_of}
+use Rattle.std.proofs.Common.{◌≡◌, refl, ◌∙◌, List, ◌∷◌, ◌++◌, ℕ, zero, suc, ◌-◌, ◌/◌, ◌%◌, ◌≤◌, ◌<◌, length, length-append, drop, arith, append-nil, le_refl}
+use lib.ListN.{set, length-set, drop_of_length-le}
+use lib.Seq.{append_snoc, drop-cons, get_or-set_same, drop-set-lt}
+use Rattle.text.specs.laws.Notations.{NotationLaws}
 
--- the last k digits of n written from `at` on, the last one first, each by its code: how the code goes
-unfoldable pub written_into : (ℕ → ℕ) → ℕ → ℕ → ℕ → ℕ → List ℕ → List ℕ
-written_into code base at zero n out = out
-written_into code base at (suc k) n out = written_into code base at k (n / base) (set out (at + k) (code (n % base)))
+-- the last k digits of n written in front, the last one first, each by its code: how the code goes
+unfoldable pub written_into : (ℕ → ℕ) → ℕ → ℕ → ℕ → List ℕ → List ℕ
+written_into code base zero n room = room
+written_into code base (suc k) n room = written_into code base k (n / base) (set room k (code (n % base)))
 
 -- the digit that is written first, at the end, and what it leaves to be written
-pub written_into_more : (code : ℕ → ℕ) (base at left rest : ℕ) (out : List ℕ) → 0 < left →
-    written_into code base at left rest out ≡ written_into code base at (left - 1) (rest / base) (set out (at + (left - 1)) (code (rest % base)))
+pub written_into_more : (code : ℕ → ℕ) (base left rest : ℕ) (room : List ℕ) → 0 < left →
+    written_into code base left rest room ≡ written_into code base (left - 1) (rest / base) (set room (left - 1) (code (rest % base)))
 unfolding written_into
-written_into_more code base at zero rest out h = absurd (omega arith)
-written_into_more code base at (suc k) rest out h =
+written_into_more code base zero rest room h = absurd (omega arith)
+written_into_more code base (suc k) rest room h =
     let e : suc k - 1 ≡ k = omega arith in
     rw e
 
 -- with no digit left, nothing is written
-pub none_left : (code : ℕ → ℕ) (base at left rest : ℕ) (out : List ℕ) {after : List ℕ} → left ≤ 0 → written_into code base at left rest out ≡ after → out ≡ after
+pub none_left : (code : ℕ → ℕ) (base left rest : ℕ) (room : List ℕ) {after : List ℕ} → left ≤ 0 → written_into code base left rest room ≡ after → room ≡ after
 unfolding written_into
-none_left code base at left rest out h e = let z : left ≡ 0 = omega arith in rw z at e
+none_left code base left rest room h e = let z : left ≡ 0 = omega arith in rw z at e
 
 -- a store at j, seen from j on
 drop_set_here : (l : List ℕ) (j v : ℕ) → j < length l → drop j (set l j v) ≡ v ∷ drop (suc j) l
@@ -36,33 +31,24 @@ drop_set_here l j v h =
     drop-cons (set l j v) j 0 there
     ∙ rw (get_or-set_same l j v 0 h, drop-set-lt (suc j) l j v (omega arith))
 
--- one digit, and those before it
-module _ (code : ℕ → ℕ) (base at k n : ℕ) (out : List ℕ) (h : at + suc k ≤ length out) where
-  abbrev stored : List ℕ
-  stored = set out (at + k) (code (n % base))
+module _ (code : ℕ → ℕ) (base : ℕ) (row : ℕ → ℕ → List ℕ) (laws : NotationLaws base code row) where
+  pub length_row : (k n : ℕ) → length (row k n) ≡ k
+  length_row zero n = rw (laws.none n) refl
+  length_row (suc k) n =
+      let h : length (row k (n / base)) ≡ k = length_row k (n / base) in
+      rw (laws.more k n) (simp length-append (omega arith))
 
-  into_one_more :
-      (row : List ℕ) → (at + k ≤ length stored → written_into code base at k (n / base) stored ≡ take at stored ++ (row ++ drop (at + k) stored)) →
-      written_into code base at (suc k) n out ≡ take at out ++ ((row ++ (code (n % base) ∷ [])) ++ drop (at + suc k) out)
+  row_stands : (k n : ℕ) (room : List ℕ) → k ≤ length room → written_into code base k n room ≡ row k n ++ drop k room
   unfolding written_into
-  into_one_more row before =
-      let inside : at + k < length out = omega arith in
-      let room : at + k ≤ length (set out (at + k) (code (n % base))) = simp length-set (omega arith) in
-      before room
-      ∙ rw (take-set-le at out (at + k) (code (n % base)) (omega arith), drop_set_here out (at + k) (code (n % base)) inside, add-suc, append_snoc)
+  row_stands zero n room h = rw (laws.none n) refl
+  row_stands (suc k) n room h =
+      let inside : k < length room = omega arith in
+      let fits : k ≤ length (set room k (code (n % base))) = simp length-set (omega arith) in
+      row_stands k (n / base) (set room k (code (n % base))) fits
+      ∙ rw (laws.more k n, drop_set_here room k (code (n % base)) inside, append_snoc)
 
--- spelled as text
-pub spelled_into_is_spelled : (base at k n : ℕ) (out : List ℕ) → at + k ≤ length out →
-    written_into digit base at k n out ≡ take at out ++ (spelled base k n ++ drop (at + k) out)
-unfolding written_into spelled
-spelled_into_is_spelled base at zero n out h = rw add-zero (sym (take-append-drop at out))
-spelled_into_is_spelled base at (suc k) n out h =
-    into_one_more digit base at k n out h (spelled base k (n / base)) (spelled_into_is_spelled base at k (n / base) (set out (at + k) (digit (n % base))))
-
--- as bytes
-pub bytes_into_are_bytes : (at k w : ℕ) (out : List ℕ) → at + k ≤ length out →
-    written_into (λ d. d) 256 at k w out ≡ take at out ++ (bytes_of k w ++ drop (at + k) out)
-unfolding written_into bytes_of
-bytes_into_are_bytes at zero w out h = rw add-zero (sym (take-append-drop at out))
-bytes_into_are_bytes at (suc k) w out h =
-    into_one_more (λ d. d) 256 at k w out h (bytes_of k (w / 256)) (bytes_into_are_bytes at k (w / 256) (set out (at + k) (w % 256)))
+  -- over the whole of the room
+  pub row_is_whole : (n : ℕ) (room : List ℕ) → written_into code base (length room) n room ≡ row (length room) n
+  row_is_whole n room =
+      row_stands (length room) n room (le_refl (length room))
+      ∙ rw (drop_of_length-le room (le_refl (length room))) (append-nil (row (length room) n))

@@ -1,9 +1,7 @@
 -- A 64-bit word out of bytes, and a number into bytes: digits in base 256, the most significant first.
-use Rattle.std.specs.Prelude.{List, [], ◌∷◌, ◌++◌, ℕ, zero, suc, ◌+◌, ◌*◌, ◌/◌, ◌%◌, ◌<◌, leb, length, get_or}
+use Rattle.std.specs.Prelude.{List, [], ◌∷◌, ◌++◌, ℕ, zero, suc, ◌+◌, ◌*◌, ◌/◌, ◌%◌, ◌<◌, leb, length, get_or, Option, None, Some}
 use Rattle.loops.specs.Choice.{when◌then◌else◌}
 use Rattle.loops.specs.Loop.{loop}
-use Rattle.text.specs.declared.word.Word.{Word}
-use Rattle.text.specs.declared.word.Word.TheVariants.{Is, Short}
 
 abbrev pub word_turn : List ℕ → ℕ → ℕ → ℕ → ℕ
 word_turn s at i w = w * 256 + get_or s (at + i) 0
@@ -13,10 +11,10 @@ unfoldable pub word_from : List ℕ → ℕ → ℕ
 unfolding loop
 word_from s at = loop 0 8 (word_turn s at) 0
 
--- the same, or Short where fewer than eight bytes stand there
-unfoldable pub word_at : List ℕ → ℕ → Word
+-- the same, or none where fewer than eight bytes stand there
+unfoldable pub word_at : List ℕ → ℕ → Option ℕ
 unfolding word_from
-word_at s at = when leb (at + 8) (length s) then Is (word_from s at) else Short
+word_at s at = when leb (at + 8) (length s) then Some (word_from s at) else None
 
 -- the last k bytes of w: eight are the whole of a 64-bit word
 unfoldable pub bytes_of : ℕ → ℕ → List ℕ

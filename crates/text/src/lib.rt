@@ -1,11 +1,12 @@
 // Lines of text and words of bytes: what a program writes and reads that prints doubles by their bits.
-// Text goes into a lent slice, at a place that each call takes and gives back.
+// Text goes onto a page, which is a lent slice and the place where its next text goes.
 #![tactic(auto)]
 
+mod notation;
 mod page;
 mod pattern;
 mod word;
 
-pub use page::{Place, places, put_byte, put_bytes, put_count, put_double, stands};
+pub use page::{Page, places};
 pub use pattern::{bits, double};
-pub use word::{Word, put_word, word_at};
+pub use word::word_at;

@@ -8,6 +8,7 @@ ghost use Rattle.unit.specs.Unit.{unit_r};
 // A product of a negative number and +0 leaves it, and a product with a positive number keeps it.
 const MINUS_ZERO: f64 = -0.0;
 
+// Stays flat: `add_scaled` of bdf's rescale adds rows of any width that stand in one slice, and this table's are among them.
 const UNIT_R: [f64; 36] = [
     // row 0
     1.0, 1.0, 1.0, 1.0, 1.0, 1.0,

@@ -10,9 +10,10 @@
 // bytes were A5 before. A stream that is no row of cases, or has more than there is room for, ends in the line `X`.
 #![tactic(auto)]
 
-use job::{CELLS, Form, FormReading, Writing};
+use job::{CELLS, Form, ReadError, WriteError};
 use matrix::MAX_N;
-use text::{Place, Word};
+use std::fmt::Write;
+use text::Page;
 
 // The most words of y0 and of A, and the most bytes of a slice and of a file.
 const PLACES: usize = 64;
@@ -21,226 +22,215 @@ const MATRIX: usize = 1100;
 
 const ROOM: usize = 8 * MATRIX;
 
-// A proved loop has to end, and nothing says that a stream does: it counts down from a number that no stream uses up.
-fn main(rt: HostRuntime) {
-    let mut bytes = [0u8; ROOM];
-    let mut y0 = [0u64; PLACES];
-    let mut a = [0u64; MATRIX];
-    let mut out = [0u8; ROOM];
-    let mut left = u64::MAX;
-    while left > 0 && case(&rt, &mut bytes, &mut y0, &mut a, &mut out) {
-        left -= 1;
-    }
+// What each byte of the slice holds before it is lent.
+const BLANK: u8 = 0xA5;
+
+// What a case is read into, and the slice that is written into.
+#[derive(Drop)]
+struct Buffers {
+    bytes: [u8; ROOM],
+    y0: [u64; PLACES],
+    a: [u64; MATRIX],
+    out: [u8; ROOM],
 }
 
-// One case; whether another may follow.
-fn case(rt: &HostRuntime, bytes: &mut [u8], y0: &mut [u64], a: &mut [u64], out: &mut [u8]) -> bool {
-    let mut lead = [0u8; 16];
-    let got = input::full(&mut rt.stdin(), &mut lead);
-    if got == 0 {
-        return false;
-    }
-    if got < 16 {
-        return unfit(rt);
-    }
-    let room = word(&lead, 8) as usize;
-    if room > out.len() {
-        return unfit(rt);
-    }
-    match word(&lead, 0) {
-        0 => form(rt, bytes, y0, a, &mut out[..room]),
-        1 => file(rt, bytes, &mut out[..room]),
-        _ => unfit(rt),
-    }
+#[derive(Clone, Copy)]
+enum Kind {
+    Form,
+    File,
 }
 
-// A form with y0 and A.
-fn form(rt: &HostRuntime, bytes: &mut [u8], y0: &mut [u64], a: &mut [u64], out: &mut [u8]) -> bool {
-    if !fetched(rt, bytes, 88) {
-        return unfit(rt);
-    }
-    if word(bytes, 24) > 1 {
-        return unfit(rt);
-    }
-    let f = form_of(bytes);
-    let places = word(bytes, 72) as usize;
-    let cells = word(bytes, 80) as usize;
-    if places > y0.len() {
-        return unfit(rt);
-    }
-    if cells > a.len() {
-        return unfit(rt);
-    }
-    filled(rt, f, bytes, &mut y0[..places], &mut a[..cells], out)
+// Why no other case follows.
+#[derive(Clone, Copy)]
+enum Stop {
+    AtEnd,
+    // The stream is no row of cases, or has more than there is room for.
+    Unfit,
+    // Standard output takes no more.
+    NotWritten,
 }
 
-// All of y0 and A come from the input.
-fn filled(
-    rt: &HostRuntime,
-    f: Form,
-    bytes: &mut [u8],
-    y0: &mut [u64],
-    a: &mut [u64],
-    out: &mut [u8],
-) -> bool {
-    if !loaded(rt, bytes, y0) {
-        return unfit(rt);
-    }
-    if !loaded(rt, bytes, a) {
-        return unfit(rt);
-    }
-    written(rt, f, y0, a, out)
+// Why a case is not written.
+#[derive(Clone, Copy)]
+enum Refusal {
+    Read(ReadError),
+    Write(WriteError),
 }
 
-fn form_of(s: &[u8]) -> Form {
-    let n = word(s, 0) as usize;
-    let max_steps = word(s, 8) as usize;
-    let newton_maxiter = word(s, 16) as usize;
-    let automatic = word(s, 24) != 0;
-    let x0 = word(s, 32);
-    let xend = word(s, 40);
-    let first_step = word(s, 48);
-    let rtol = word(s, 56);
-    let atol = word(s, 64);
-    Form {
-        n,
-        max_steps,
-        newton_maxiter,
-        automatic,
-        x0,
-        xend,
-        first_step,
-        rtol,
-        atol,
-    }
-}
+impl TryFrom<u64> for Kind {
+    type Error = Stop;
 
-// A file: it is read by its bits, and what was read is written.
-fn file(rt: &HostRuntime, bytes: &mut [u8], out: &mut [u8]) -> bool {
-    let mut lead = [0u8; 8];
-    let got = input::full(&mut rt.stdin(), &mut lead);
-    let length = word(&lead, 0) as usize;
-    if got < 8 {
-        return unfit(rt);
-    }
-    if length > bytes.len() {
-        return unfit(rt);
-    }
-    if !fetched(rt, bytes, length) {
-        return unfit(rt);
-    }
-    reread(rt, &bytes[..length], out)
-}
-
-fn reread(rt: &HostRuntime, s: &[u8], out: &mut [u8]) -> bool {
-    let mut y0 = [0u64; MAX_N];
-    let mut a = [0u64; CELLS];
-    match job::read_form(s, &mut y0, &mut a) {
-        FormReading::Read(f) => rewritten(rt, f, &y0, &a, out),
-        FormReading::Refused(number) => {
-            blank(out);
-            told(rt, Writing::Refused(number), out)
+    fn try_from(word: u64) -> Result<Kind, Stop> {
+        match word {
+            0 => Ok(Kind::Form),
+            1 => Ok(Kind::File),
+            _ => Err(Stop::Unfit),
         }
     }
 }
 
-// The arrays as slices.
-fn rewritten(
-    rt: &HostRuntime,
-    f: Form,
-    y0: &[u64; MAX_N],
-    a: &[u64; CELLS],
-    out: &mut [u8],
-) -> bool {
-    fitted(rt, f, y0, a, out)
+impl From<ReadError> for Refusal {
+    fn from(why: ReadError) -> Refusal {
+        Refusal::Read(why)
+    }
 }
 
-// The reader gives no form with more components than the arrays hold.
-fn fitted(rt: &HostRuntime, f: Form, y0: &[u64], a: &[u64], out: &mut [u8]) -> bool {
-    let n = f.n;
-    if n > MAX_N {
-        return unfit(rt);
+impl From<WriteError> for Refusal {
+    fn from(why: WriteError) -> Refusal {
+        Refusal::Write(why)
     }
-    if n > y0.len() {
-        return unfit(rt);
-    }
-    if n * n > a.len() {
-        return unfit(rt);
-    }
-    written(rt, f, &y0[..n], &a[..n * n], out)
 }
 
-fn written(rt: &HostRuntime, f: Form, y0: &[u64], a: &[u64], out: &mut [u8]) -> bool {
-    blank(out);
-    let said = job::write(f, y0, a, out);
-    told(rt, said, out)
-}
-
-// Whether the next `length` bytes of the input now stand at the beginning of `bytes`.
-fn fetched(rt: &HostRuntime, bytes: &mut [u8], length: usize) -> bool {
-    if length > bytes.len() {
-        return false;
+impl Refusal {
+    fn number(&self) -> u64 {
+        match self {
+            Refusal::Read(why) => why.number(),
+            Refusal::Write(why) => why.number(),
+        }
     }
-    input::full(&mut rt.stdin(), &mut bytes[..length]) == length
 }
 
-// Whether the next words of the input now stand in `to`, as many as it has places.
-fn loaded(rt: &HostRuntime, bytes: &mut [u8], to: &mut [u64]) -> bool {
+// A proved loop has to end, and nothing says that a stream does: it counts up to a number that no stream uses up.
+fn main(rt: HostRuntime) {
+    let mut buffers = Buffers {
+        bytes: [0u8; ROOM],
+        y0: [0u64; PLACES],
+        a: [0u64; MATRIX],
+        out: [0u8; ROOM],
+    };
+    for _ in 0..u64::MAX {
+        match case(&rt, &mut buffers) {
+            Ok(()) => {}
+            Err(stop) => {
+                told_why(&rt, stop);
+                break;
+            }
+        }
+    }
+}
+
+fn told_why(rt: &HostRuntime, stop: Stop) {
+    match stop {
+        Stop::AtEnd => {}
+        Stop::Unfit => {
+            let _ = rt.print("X\n");
+        }
+        Stop::NotWritten => {
+            let _ = rt.eprintln("write_job: standard output was not written");
+        }
+    }
+}
+
+// One case.
+fn case(rt: &HostRuntime, b: &mut Buffers) -> Result<(), Stop> {
+    let mut lead = [0u8; 16];
+    match input::full(&mut rt.stdin(), &mut lead) {
+        0 => return Err(Stop::AtEnd),
+        16 => {}
+        _ => return Err(Stop::Unfit),
+    }
+    let room = word(&lead, 8)? as usize;
+    match Kind::try_from(word(&lead, 0)?)? {
+        Kind::Form => form(rt, b, room),
+        Kind::File => file(rt, b, room),
+    }
+}
+
+// A form with y0 and A, which all come from the input.
+fn form(rt: &HostRuntime, b: &mut Buffers, room: usize) -> Result<(), Stop> {
+    let out = b.out.get_mut(..room).ok_or(Stop::Unfit)?;
+    let head = fetched(rt, &mut b.bytes, 88)?;
+    let f = form_of(head)?;
+    let places = word(head, 72)? as usize;
+    let cells = word(head, 80)? as usize;
+    let y0 = b.y0.get_mut(..places).ok_or(Stop::Unfit)?;
+    let a = b.a.get_mut(..cells).ok_or(Stop::Unfit)?;
+    loaded(rt, &mut b.bytes, y0)?;
+    loaded(rt, &mut b.bytes, a)?;
+    told(rt, written(f, y0, a, out), out)
+}
+
+fn form_of(s: &[u8]) -> Result<Form, Stop> {
+    Ok(Form {
+        n: word(s, 0)? as usize,
+        max_steps: word(s, 8)? as usize,
+        newton_maxiter: word(s, 16)? as usize,
+        automatic: flag(word(s, 24)?)?,
+        x0: word(s, 32)?,
+        xend: word(s, 40)?,
+        first_step: word(s, 48)?,
+        rtol: word(s, 56)?,
+        atol: word(s, 64)?,
+    })
+}
+
+fn flag(word: u64) -> Result<bool, Stop> {
+    match word {
+        0 => Ok(false),
+        1 => Ok(true),
+        _ => Err(Stop::Unfit),
+    }
+}
+
+// A file: it is read by its bits, and what was read is written.
+fn file(rt: &HostRuntime, b: &mut Buffers, room: usize) -> Result<(), Stop> {
+    let out = b.out.get_mut(..room).ok_or(Stop::Unfit)?;
+    let mut lead = [0u8; 8];
+    let length = word(fetched(rt, &mut lead, 8)?, 0)? as usize;
+    let file = fetched(rt, &mut b.bytes, length)?;
+    told(rt, rewritten(file, out), out)
+}
+
+fn rewritten(s: &[u8], out: &mut [u8]) -> Result<usize, Refusal> {
+    let mut y0 = [0u64; MAX_N];
+    let mut a = [0u64; CELLS];
+    out.fill(BLANK);
+    let f = job::read_form(s, &mut y0, &mut a)?;
+    written(f, &y0[..f.n], &a[..f.n * f.n], out)
+}
+
+fn written(f: Form, y0: &[u64], a: &[u64], out: &mut [u8]) -> Result<usize, Refusal> {
+    out.fill(BLANK);
+    Ok(job::write(f, y0, a, out)?)
+}
+
+// The next `length` bytes of the input, which now stand at the beginning of `bytes`.
+fn fetched<'a>(rt: &HostRuntime, bytes: &'a mut [u8], length: usize) -> Result<&'a [u8], Stop> {
+    let front = bytes.get_mut(..length).ok_or(Stop::Unfit)?;
+    if input::full(&mut rt.stdin(), front) < length {
+        return Err(Stop::Unfit);
+    }
+    Ok(front)
+}
+
+// The next words of the input now stand in `to`, as many as it has places.
+fn loaded(rt: &HostRuntime, bytes: &mut [u8], to: &mut [u64]) -> Result<(), Stop> {
     if to.len() > bytes.len() / 8 {
-        return false;
+        return Err(Stop::Unfit);
     }
-    if !fetched(rt, bytes, 8 * to.len()) {
-        return false;
+    let words = fetched(rt, bytes, 8 * to.len())?;
+    for (i, w) in to.iter_mut().enumerate() {
+        *w = word(words, 8 * i)?;
     }
-    for i in 0..to.len() {
-        to[i] = word(bytes, 8 * i);
-    }
-    true
+    Ok(())
 }
 
-// The word at a place; 0 where there is none.
-fn word(s: &[u8], at: usize) -> u64 {
-    match text::word_at(s, at) {
-        Word::Is(w) => w,
-        Word::Short => 0,
-    }
+fn word(s: &[u8], at: usize) -> Result<u64, Stop> {
+    text::word_at(s, at).ok_or(Stop::Unfit)
 }
 
-// What the slice holds before it is lent.
-fn blank(out: &mut [u8]) {
-    for i in 0..out.len() {
-        out[i] = 0xA5;
-    }
-}
-
-// The answer's line, and the slice; whether they were written out.
-fn told(rt: &HostRuntime, said: Writing, out: &[u8]) -> bool {
+// The answer's line, and the slice.
+fn told(rt: &HostRuntime, said: Result<usize, Refusal>, out: &[u8]) -> Result<(), Stop> {
     let mut line = [0u8; 32];
-    let end = answer(&mut line, said);
+    let mut page = Page::new(&mut line);
+    let put = match said {
+        Ok(count) => writeln!(page, "W {count}"),
+        Err(why) => writeln!(page, "R {}", why.number()),
+    };
     let mut to = rt.stdout();
-    if text::stands(output::flush(&mut to, &line, end)) && to.write_all(out).is_ok() {
-        return true;
+    output::flush(&mut to, &mut page);
+    if put.is_err() || page.is_full() || to.write_all(out).is_err() {
+        return Err(Stop::NotWritten);
     }
-    let _ = rt.eprintln("write_job: standard output was not written");
-    false
-}
-
-fn answer(line: &mut [u8], said: Writing) -> Place {
-    match said {
-        Writing::Written(count) => numbered(line, b'W', count as u64),
-        Writing::Refused(number) => numbered(line, b'R', number),
-    }
-}
-
-fn numbered(line: &mut [u8], letter: u8, number: u64) -> Place {
-    let head = text::put_byte(line, Place::At(0), letter);
-    let at = text::put_byte(line, head, b' ');
-    let end = text::put_count(line, at, number);
-    text::put_byte(line, end, b'\n')
-}
-
-// The stream is no row of cases.
-fn unfit(rt: &HostRuntime) -> bool {
-    let _ = rt.print("X\n");
-    false
+    Ok(())
 }

@@ -1,12 +1,13 @@
 -- What a form has that is accepted, test by test of `judged_of`, and back.
-use Rattle.std.specs.Prelude.{◌≡◌, refl, true, ℕ, ◌≤◌, ltb}
+use Rattle.std.specs.Prelude.{◌≡◌, refl, true, ℕ, ◌≤◌, ltb, Result, Ok, Err, ⊤}
 use Rattle.std.proofs.Math.Path.{ap}
 use Rattle.std.proofs.Common.{◌∙◌}
 use borrow.Author.Tests.{le-ltb, ltb-false}
+use Rattle.rules.specs.declared.types.Refusal.{Refusal}
 use Rattle.loops.specs.Refusal.{Outcome, gives}
 use Rattle.loops.specs.laws.ChoiceLaws.{either, when_true, when_false}
 use Rattle.job.specs.declared.form.Form.{Form}
-use Rattle.job.specs.Types.{Check, Refuse, Passed, max_n}
+use Rattle.job.specs.Types.{max_n}
 use Rattle.job.specs.Packed.{length_for}
 use Rattle.job.specs.Reading.{job_of}
 use Rattle.job.specs.laws.ReadingLaws.{refuses_nothing}
@@ -15,11 +16,11 @@ use Rattle.job.specs.Writing.{fits_of, begins_of, begun_of, judged_of}
 pub record Accepted (f : Form) (places cells : ℕ) : Type 0 where
   pub few : f.n ≤ max_n
   pub fits : fits_of f places cells ≡ true
-  pub begins : begins_of (job_of f) ≡ Passed
+  pub begins : begins_of (job_of f) ≡ Ok tt
 
-begun_passes : (long k : ℕ) (check : Check) → begun_of long check ≡ gives k → (check ≡ Passed) × (k ≡ long)
-begun_passes long k Passed e = (refl, cc)
-begun_passes long k (Refuse why) e = refuses_nothing e
+begun_passes : (long k : ℕ) (check : Result ⊤ Refusal) → begun_of long check ≡ gives k → (check ≡ Ok tt) × (k ≡ long)
+begun_passes long k (Ok tt) e = (refl, cc)
+begun_passes long k (Err why) e = refuses_nothing e
 
 module _ (f : Form) (places cells : ℕ) where
   -- what an outcome of `judged_of` says where it gives a length

@@ -2,15 +2,24 @@
 -- That it has at most as many components as are served stands in proofs/Serving.antt.
 use Rattle.std.specs.Prelude.{◌≡◌, refl, true, List, [], ◌∷◌, ◌++◌, map, ℕ, zero, suc, eqb, length, Float}
 use Rattle.std.proofs.Common.{ap, ◌∙◌, arith, length-append, eqb-true}
+use Rattle.loops.specs.Choice.{when◌then◌else◌}
 use Rattle.loops.specs.laws.ChoiceLaws.{and_first}
 use Rattle.loops.specs.Refusal.{gives, refuses}
 use Rattle.job.specs.declared.packed.Head.{Head}
 use Rattle.job.specs.Packed.{words_of, value_of, doubles_of, length_for}
-use Rattle.job.specs.Reading.{accepted_of}
+use Rattle.job.specs.declared.form.ReadError.{ReadError}
+use Rattle.job.specs.declared.form.ReadError.TheVariants.{TooManyComponents, NoJob}
+use Rattle.job.specs.Reading.{read_number, read_refusal, accepted_of}
 
 -- a refusal gives nothing
 pub refuses_nothing : {A B : Type 0} {number : ℕ} {x : B} → refuses number ≡ gives x → A
 refuses_nothing e = let z : ◌≡◌ {A = ℕ} 0 1 = cc in absurd (omega arith)
+
+-- each refusal is the one of its number
+pub read_refused : (why : ReadError) → read_refusal (read_number why) ≡ why
+unfolding read_refusal when◌then◌else◌
+read_refused TooManyComponents = refl
+read_refused NoJob = refl
 
 -- ---- a form that was read
 

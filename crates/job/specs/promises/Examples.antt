@@ -1,5 +1,5 @@
 -- What the definitions give at the first job of docs/JOB-FORMAT.md and at files that are easily judged wrongly, by computation.
-use Rattle.std.specs.Prelude.{◌≡◌, refl, [], ◌∷◌}
+use Rattle.std.specs.Prelude.{◌≡◌, refl, false, [], ◌∷◌}
 use Rattle.loops.specs.Choice.{when◌then◌else◌}
 use Rattle.loops.specs.Loop.{turns, loop}
 use Rattle.loops.specs.Refusal.{refuses}
@@ -7,7 +7,7 @@ use Rattle.job.specs.Packed.{head_bits, head_of}
 use Rattle.job.specs.Reading.{accepted_of, head_read, form_read, read_of}
 
 -- n 1, 100,000 steps, Newton 4, a given first step: 000001 00011000011010100000 0000100 0 000000
-pub example_head : head_of (head_bits (0x04 ∷ 0x61 ∷ 0xA8 ∷ 0x02 ∷ 0x00 ∷ [])) ≡ record { n = 1; max_steps = 100000; newton_maxiter = 4; automatic = 0; padding = 0 }
+pub example_head : head_of (head_bits (0x04 ∷ 0x61 ∷ 0xA8 ∷ 0x02 ∷ 0x00 ∷ [])) ≡ record { n = 1; max_steps = 100000; newton_maxiter = 4; automatic = false; padding = 0 }
 unfolding head_bits loop turns
 example_head = refl
 

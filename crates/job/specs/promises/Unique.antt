@@ -1,37 +1,37 @@
 -- The contracts of this crate leave no choice: two outcomes that meet one of them, from the same call, are the same answer and the
 -- same numbers left in every lent slice. Each `Meets..` is the equation that the code's contract states.
-use Rattle.std.specs.Prelude.{◌≡◌, refl, Bool, List, ℕ, Float}
+use Rattle.std.specs.Prelude.{◌≡◌, refl, eqb, List, ℕ, Float, Result, Ok, Err}
 use Rattle.std.proofs.Common.{sym, ap, ◌∙◌}
+use Rattle.loops.specs.Choice.{when◌then◌else◌}
 use Rattle.loops.specs.Refusal.{Outcome, gives, refuses}
 use Rattle.job.specs.declared.form.Form.{Form}
-use Rattle.job.specs.declared.form.FormReading.{FormReading}
-use Rattle.job.specs.declared.form.FormReading.TheVariants as form
+use Rattle.job.specs.declared.form.ReadError.{ReadError}
 use Rattle.job.specs.declared.reader.Job.{Job}
-use Rattle.job.specs.declared.reader.Reading.{Reading}
-use Rattle.job.specs.declared.reader.Reading.TheVariants.{Read, Refused}
-use Rattle.job.specs.declared.writer.Writing.{Writing}
-use Rattle.job.specs.declared.writer.Writing.TheVariants as writing
+use Rattle.job.specs.declared.right.WrongLength.{WrongLength}
+use Rattle.job.specs.declared.writer.WriteError.{WriteError}
+use Rattle.job.specs.declared.writer.WriteError.TheVariants as write
 use Rattle.job.specs.Types.{BDF}
-use Rattle.job.specs.Reading.{FormOutcome, form_reading_of, read_form_of, ReadOutcome, reading_of, read_of, settings_of}
+use Rattle.job.specs.Reading.{read_refusal, FormOutcome, form_reading_of, read_form_of, ReadOutcome, reading_of, read_of, settings_of}
 use Rattle.job.specs.Right.{right_side_of}
-use Rattle.job.specs.Writing.{WriteOutcome, writing_of, write_of}
+use Rattle.job.specs.laws.ReadingLaws.{read_refused}
+use Rattle.job.specs.Writing.{write_number, WriteOutcome, writing_of, write_of}
 
 -- ---- read
 
-abbrev pub MeetsRead : List ℕ → List Float → List Float → Reading → List Float → List Float → Type 0
+abbrev pub MeetsRead : List ℕ → List Float → List Float → Result Job ReadError → List Float → List Float → Type 0
 MeetsRead s y0 a r y b = ◌≡◌ {A = ReadOutcome} (reading_of r, y, b) (read_of s y0 a)
 
 -- the answer that an outcome tells, read back
-abbrev reading_told : Outcome Job → Reading
-reading_told (gives job) = Read job
-reading_told (refuses number) = Refused number
+abbrev reading_told : Outcome Job → Result Job ReadError
+reading_told (gives job) = Ok job
+reading_told (refuses number) = Err (read_refusal number)
 
-reading_read : (r : Reading) → reading_told (reading_of r) ≡ r
-reading_read (Read job) = refl
-reading_read (Refused number) = refl
+reading_read : (r : Result Job ReadError) → reading_told (reading_of r) ≡ r
+reading_read (Ok job) = refl
+reading_read (Err e) = ap Err (read_refused e)
 
 pub read_unique :
-    (s : List ℕ) (y0 a : List Float) {r t : Reading} {y z b c : List Float} →
+    (s : List ℕ) (y0 a : List Float) {r t : Result Job ReadError} {y z b c : List Float} →
     MeetsRead s y0 a r y b → MeetsRead s y0 a t z c → (r ≡ t) × (y ≡ z) × (b ≡ c)
 read_unique s y0 a {r} {t} m o =
     let same = m ∙ sym o in
@@ -39,19 +39,19 @@ read_unique s y0 a {r} {t} m o =
 
 -- ---- read_form
 
-abbrev pub MeetsReadForm : List ℕ → List ℕ → List ℕ → FormReading → List ℕ → List ℕ → Type 0
+abbrev pub MeetsReadForm : List ℕ → List ℕ → List ℕ → Result Form ReadError → List ℕ → List ℕ → Type 0
 MeetsReadForm s y0 a r y b = ◌≡◌ {A = FormOutcome} (form_reading_of r, y, b) (read_form_of s y0 a)
 
-abbrev form_told : Outcome Form → FormReading
-form_told (gives f) = form.Read f
-form_told (refuses number) = form.Refused number
+abbrev form_told : Outcome Form → Result Form ReadError
+form_told (gives f) = Ok f
+form_told (refuses number) = Err (read_refusal number)
 
-form_read_lem : (r : FormReading) → form_told (form_reading_of r) ≡ r
-form_read_lem (form.Read f) = refl
-form_read_lem (form.Refused number) = refl
+form_read_lem : (r : Result Form ReadError) → form_told (form_reading_of r) ≡ r
+form_read_lem (Ok f) = refl
+form_read_lem (Err e) = ap Err (read_refused e)
 
 pub read_form_unique :
-    (s y0 a : List ℕ) {r t : FormReading} {y z b c : List ℕ} →
+    (s y0 a : List ℕ) {r t : Result Form ReadError} {y z b c : List ℕ} →
     MeetsReadForm s y0 a r y b → MeetsReadForm s y0 a t z c → (r ≡ t) × (y ≡ z) × (b ≡ c)
 read_form_unique s y0 a {r} {t} m o =
     let same = m ∙ sym o in
@@ -59,19 +59,40 @@ read_form_unique s y0 a {r} {t} m o =
 
 -- ---- write
 
-abbrev pub MeetsWrite : Form → List ℕ → List ℕ → List ℕ → Writing → List ℕ → Type 0
+-- the refusal that a number tells
+write_refusal : ℕ → WriteError
+write_refusal number =
+    when eqb number 1 then write.TooManyComponents
+    else when eqb number 17 then write.NoJob
+    else when eqb number 5 then write.NegativeTolerance
+    else when eqb number 6 then write.NoSteps
+    else when eqb number 7 then write.LimitTooLarge
+    else when eqb number 8 then write.ZeroFirstStep
+    else write.SliceShort
+
+write_refused : (e : WriteError) → write_refusal (write_number e) ≡ e
+unfolding write_refusal when◌then◌else◌
+write_refused write.TooManyComponents = refl
+write_refused write.NoJob = refl
+write_refused write.NegativeTolerance = refl
+write_refused write.NoSteps = refl
+write_refused write.LimitTooLarge = refl
+write_refused write.ZeroFirstStep = refl
+write_refused write.SliceShort = refl
+
+abbrev pub MeetsWrite : Form → List ℕ → List ℕ → List ℕ → Result ℕ WriteError → List ℕ → Type 0
 MeetsWrite f y0 a out₀ r out = ◌≡◌ {A = WriteOutcome} (writing_of r, out) (write_of f y0 a out₀)
 
-abbrev writing_told : Outcome ℕ → Writing
-writing_told (gives count) = writing.Written count
-writing_told (refuses number) = writing.Refused number
+abbrev writing_told : Outcome ℕ → Result ℕ WriteError
+writing_told (gives count) = Ok count
+writing_told (refuses number) = Err (write_refusal number)
 
-writing_read : (r : Writing) → writing_told (writing_of r) ≡ r
-writing_read (writing.Written count) = refl
-writing_read (writing.Refused number) = refl
+writing_read : (r : Result ℕ WriteError) → writing_told (writing_of r) ≡ r
+writing_read (Ok count) = refl
+writing_read (Err e) = ap Err (write_refused e)
 
 pub write_unique :
-    (f : Form) (y0 a out₀ : List ℕ) {r s : Writing} {out other : List ℕ} →
+    (f : Form) (y0 a out₀ : List ℕ) {r s : Result ℕ WriteError} {out other : List ℕ} →
     MeetsWrite f y0 a out₀ r out → MeetsWrite f y0 a out₀ s other → (r ≡ s) × (out ≡ other)
 write_unique f y0 a out₀ {r} {s} m o =
     let same = m ∙ sym o in
@@ -79,13 +100,13 @@ write_unique f y0 a out₀ {r} {s} m o =
 
 -- ---- right_side
 
-abbrev pub MeetsRight : List Float → List Float → List Float → Bool → List Float → Type 0
-MeetsRight a y dy₀ r dy = ◌≡◌ {A = Bool × List Float} (r, dy) (right_side_of a y dy₀)
+abbrev pub MeetsRight : List Float → List Float → List Float → Result Unit WrongLength → List Float → Type 0
+MeetsRight a y dy₀ r dy = ◌≡◌ {A = Result Unit WrongLength × List Float} (r, dy) (right_side_of a y dy₀)
 
 pub right_side_unique :
-    (a y dy₀ : List Float) {r s : Bool} {dy other : List Float} → MeetsRight a y dy₀ r dy → MeetsRight a y dy₀ s other → (r ≡ s) × (dy ≡ other)
+    (a y dy₀ : List Float) {r s : Result Unit WrongLength} {dy other : List Float} → MeetsRight a y dy₀ r dy → MeetsRight a y dy₀ s other → (r ≡ s) × (dy ≡ other)
 right_side_unique a y dy₀ m o =
-    let same = m ∙ sym o in (ap (λ (x : Bool × List Float). x.0) same, ap (λ (x : Bool × List Float). x.1) same)
+    let same = m ∙ sym o in (ap (λ (x : Result Unit WrongLength × List Float). x.0) same, ap (λ (x : Result Unit WrongLength × List Float). x.1) same)
 
 -- ---- settings
 

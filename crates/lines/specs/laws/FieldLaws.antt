@@ -1,6 +1,6 @@
 -- What holds of fields put one after the other: where the page has room for the line, they are the line put at once; and
 -- how long a line is.
-use Rattle.std.specs.Prelude.{◌≡◌, refl, true, false, List, [], ◌∷◌, ◌++◌, ℕ, ◌+◌, ◌*◌, ◌≤◌, T, length, Float}
+use Rattle.std.specs.Prelude.{◌≡◌, refl, true, false, List, [], ◌∷◌, ◌++◌, ℕ, ◌+◌, ◌*◌, ◌≤◌, T, length, Float, Option, None, Some}
 use Rattle.std.proofs.Common.{sym, subst, append_assoc, append-nil, arith, length-append, leb-true}
 use Rattle.std.specs.Float.{binary64}
 use Rattle.std.specs.Float.Ieee.{to_bits}
@@ -8,19 +8,17 @@ use Rattle.loops.specs.Choice.{when◌then◌else◌}
 use Rattle.loops.specs.laws.ChoiceLaws.{when_false}
 use Rattle.text.specs.Digits.{decimal, hexadecimal, places_within, places_of}
 use Rattle.text.specs.laws.DigitLaws.{length_spelled}
-use Rattle.text.specs.declared.page.Place.{Place}
-use Rattle.text.specs.declared.page.Place.TheVariants.{At, Full}
-use Rattle.text.specs.Page.{Page, puts}
+use Rattle.text.specs.Page.{Sheet, puts, room_for}
 use Rattle.text.specs.laws.PageLaws.{puts_joined}
 use Rattle.lines.specs.Types.{Status, Success, UserInterrupt, NeedLargerNMax, StepSizeTooSmall, Steps, Evals}
 use Rattle.lines.specs.Lines.{spaced, line, hexes, status_of, steps_fields, evals_fields, end_fields, end_line, refusal_line}
-use Rattle.lines.specs.Fields.{puts_fields, puts_line, room_for}
+use Rattle.lines.specs.Fields.{puts_fields, puts_line}
 
 -- ---- the line put at once
 
 -- fields after the text t
 fields_joined : (fs : List (List ℕ)) (t : List ℕ) (at : ℕ) (out : List ℕ) → at + length (t ++ spaced fs) ≤ length out
-    → puts_fields fs (puts t (At at, out)) ≡ puts (t ++ spaced fs) (At at, out)
+    → puts_fields fs (puts t (Some at, out)) ≡ puts (t ++ spaced fs) (Some at, out)
 unfolding puts_fields spaced
 fields_joined [] t at out room = rw append-nil
 fields_joined (f ∷ fs) t at out room =
@@ -33,7 +31,7 @@ fields_joined (f ∷ fs) t at out room =
     (fields_joined fs ((t ++ (32 ∷ [])) ++ f) at out whole)
 
 line_joined : (letter : ℕ) (fs : List (List ℕ)) (at : ℕ) (out : List ℕ) → at + length (line letter fs) ≤ length out
-    → puts_line letter fs (At at, out) ≡ puts (line letter fs) (At at, out)
+    → puts_line letter fs (Some at, out) ≡ puts (line letter fs) (Some at, out)
 unfolding puts_line line
 line_joined letter fs at out room =
     let parted : length (spaced fs ++ (10 ∷ [])) ≡ length (spaced fs) + 1 = length-append (spaced fs) (10 ∷ []) in
@@ -41,16 +39,16 @@ line_joined letter fs at out room =
 
 -- ---- with the test for room
 
-pub line_with_room : (letter : ℕ) (fs : List (List ℕ)) (place : Place) (out : List ℕ) (k : ℕ) → length (line letter fs) ≡ k
+pub line_with_room : (letter : ℕ) (fs : List (List ℕ)) (place : Option ℕ) (out : List ℕ) (k : ℕ) → length (line letter fs) ≡ k
     → room_for k place (length out) ≡ true → puts_line letter fs (place, out) ≡ puts (line letter fs) (place, out)
-line_with_room letter fs (At at) out k e room = line_joined letter fs at out (omega (arith, leb-true (at + k) (length out) room))
-line_with_room letter fs Full out k e room = absurd (subst T (sym room) tt)
+line_with_room letter fs (Some at) out k e room = line_joined letter fs at out (omega (arith, leb-true (at + k) (length out) room))
+line_with_room letter fs None out k e room = absurd (subst T (sym room) tt)
 
-pub line_without_room : (t : List ℕ) (place : Place) (out : List ℕ) (k : ℕ) → length t ≡ k → room_for k place (length out) ≡ false
-    → ◌≡◌ {A = Page} (Full, out) (puts t (place, out))
+pub line_without_room : (t : List ℕ) (place : Option ℕ) (out : List ℕ) (k : ℕ) → length t ≡ k → room_for k place (length out) ≡ false
+    → ◌≡◌ {A = Sheet} (None, out) (puts t (place, out))
 unfolding puts
-line_without_room t (At at) out k e room = sym (when_false _ _ (rw e room))
-line_without_room t Full out k e room = refl
+line_without_room t (Some at) out k e room = sym (when_false _ _ (rw e room))
+line_without_room t None out k e room = refl
 
 -- ---- how long lines are
 

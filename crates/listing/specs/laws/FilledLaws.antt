@@ -1,14 +1,14 @@
 -- What holds of a page under way: what one answer does to it, that it stays within its bytes, and how its answers are counted.
-use Rattle.std.specs.Prelude.{◌≡◌, refl, true, false, List, ℕ, zero, suc, ◌-◌, ◌≤◌, ◌<◌, length, Float}
+use Rattle.std.specs.Prelude.{◌≡◌, refl, true, false, List, ℕ, zero, suc, ◌-◌, ◌≤◌, ◌<◌, length, Float, Option, None, Some}
 use Rattle.std.proofs.Common.{sym, ◌∙◌, subst, arith}
 use Rattle.std.proofs.Math.Path.{ap}
 use Rattle.loops.specs.laws.ChoiceLaws.{either, when_true, when_false}
-use Rattle.text.specs.declared.page.Place.{Place}
-use Rattle.text.specs.declared.page.Place.TheVariants.{At, Full}
-use Rattle.text.specs.Page.{Page as Put, puts}
+use Rattle.text.specs.Page.{Sheet as Put, puts}
 use Rattle.lines.specs.Lines.{refusal_line}
 use Rattle.rules.specs.Answers.{is_question_or_notice}
 use Rattle.rules.specs.State.{After, after}
+use Rattle.job.specs.declared.form.ReadError.{ReadError}
+use Rattle.job.specs.Reading.{read_number}
 use Rattle.listing.specs.Types.{Run, Turn}
 use Rattle.listing.specs.Printed.{line_of}
 use Rattle.listing.specs.Pages.{UnderWay, sheet_of, turn_of, onward, answered_at, answered, goes_on, filled, enough, refused_at, page_from, next_page}
@@ -21,16 +21,16 @@ use Rattle.listing.specs.declared.pages.Stop.TheVariants.{Not, NoRoom}
 
 -- ---- one answer
 
-module _ (a : List Float) (s : After Sheet) (out : List ℕ) {place : Place} {page : List ℕ} (put : ◌≡◌ {A = Put} (place, page) (puts (line_of (turn_of s)) (At s.is.length, out))) where
+module _ (a : List Float) (s : After Sheet) (out : List ℕ) {place : Option ℕ} {page : List ℕ} (put : ◌≡◌ {A = Put} (place, page) (puts (line_of (turn_of s)) (Some s.is.length, out))) where
   -- by the place that its line came to
-  at_place : {p : Place} → place ≡ p → answered_at a (turn_of s) s.is.length (p, page) ≡ answered a (s, out)
+  at_place : {p : Option ℕ} → place ≡ p → answered_at a (turn_of s) s.is.length (p, page) ≡ answered a (s, out)
   unfolding answered
-  at_place e = ap (answered_at a (turn_of s) s.is.length) (ap (λ (p : Place). (p, page)) (sym e) ∙ put)
+  at_place e = ap (answered_at a (turn_of s) s.is.length) (ap (λ (p : Option ℕ). (p, page)) (sym e) ∙ put)
 
-  pub answer_put : {next : ℕ} {r : After Sheet} → place ≡ At next → r ≡ onward a (turn_of s) next → ◌≡◌ {A = UnderWay} (r, page) (answered a (s, out))
+  pub answer_put : {next : ℕ} {r : After Sheet} → place ≡ Some next → r ≡ onward a (turn_of s) next → ◌≡◌ {A = UnderWay} (r, page) (answered a (s, out))
   answer_put e f = rw f (at_place e)
 
-  pub answer_not_put : place ≡ Full → ◌≡◌ {A = UnderWay} (sheet_of (turn_of s) s.is.length NoRoom, page) (answered a (s, out))
+  pub answer_not_put : place ≡ None → ◌≡◌ {A = UnderWay} (sheet_of (turn_of s) s.is.length NoRoom, page) (answered a (s, out))
   answer_not_put e = at_place e
 
 -- ---- within the page
@@ -45,25 +45,25 @@ onward_within a g next page h =
 
 answered_at_within :
     (a : List Float) (g : After Turn) (at : ℕ) (out : List ℕ) (p : Put) → PutAt (line_of g) at out p → at ≤ length out → Within (answered_at a g at p)
-answered_at_within a g at out (At next, page) put h = onward_within a g next page put.0
-answered_at_within a g at out (Full, page) put h = rw put h
+answered_at_within a g at out (Some next, page) put h = onward_within a g next page put.0
+answered_at_within a g at out (None, page) put h = rw put h
 
 pub answered_within : (a : List Float) (u : UnderWay) → Within u → Within (answered a u)
 unfolding answered
-answered_within a (s, out) h = answered_at_within a (turn_of s) s.is.length out (puts (line_of (turn_of s)) (At s.is.length, out)) (put_at _ _ _) h
+answered_within a (s, out) h = answered_at_within a (turn_of s) s.is.length out (puts (line_of (turn_of s)) (Some s.is.length, out)) (put_at _ _ _) h
 
 filled_within : (k : ℕ) (a : List Float) (u : UnderWay) → Within u → Within (filled k a u)
 unfolding filled
 filled_within zero a u h = h
 filled_within (suc k) a u h = either Within (goes_on u.0.is.stop) (λ _. filled_within k a (answered a u) (answered_within a u h)) (λ _. h)
 
-refused_within : (number : ℕ) (run : Run) (out : List ℕ) (p : Put) → PutAt (refusal_line number) 0 out p → (refused_at number run p).0.length ≤ length (refused_at number run p).1
-refused_within number run out (At next, page) put = put.0
-refused_within number run out (Full, page) put = omega arith
+refused_within : (why : ReadError) (run : Run) (out : List ℕ) (p : Put) → PutAt (refusal_line (read_number why)) 0 out p → (refused_at why run p).0.length ≤ length (refused_at why run p).1
+refused_within why run out (Some next, page) put = put.0
+refused_within why run out (None, page) put = omega arith
 
 page_within : (a : List Float) (said : Said) (run : Run) (ws q : List Float) (out : List ℕ) → let p = page_from a said run ws q out in p.0.is.length ≤ length p.1
 page_within a (Told answer) run ws q out = filled_within enough a (sheet_of (after (record { answer = answer; run = run }) ws q) 0 Not, out) (omega arith)
-page_within a (NoJob number) run ws q out = refused_within number run out (puts (refusal_line number) (At 0, out)) (put_at _ _ _)
+page_within a (NoJob why) run ws q out = refused_within why run out (puts (refusal_line (read_number why)) (Some 0, out)) (put_at _ _ _)
 page_within a Over run ws q out = omega arith
 
 -- a page's text lies within its bytes

@@ -1,18 +1,19 @@
 -- A page with room for any line gives at least one byte, and leaves a row of answers that fits as the one before it did. It goes past
 -- questions, which have no line, and stops at an answer whose line finds no room, so after some other line, or past the last line.
-use Rattle.std.specs.Prelude.{◌≡◌, true, false, List, ◌⊎◌, ℕ, ◌+◌, ◌-◌, ◌≤◌, ◌<◌, leb, length, Float}
+use Rattle.std.specs.Prelude.{◌≡◌, true, false, List, ◌⊎◌, ℕ, ◌+◌, ◌-◌, ◌≤◌, ◌<◌, leb, length, Float, None, Some}
 use Rattle.std.proofs.Math.Path.{refl, subst}
 use Rattle.std.proofs.Common.{sym, inl, inr, leb-true, leb-false}
 use native.Mathlib.Omega.{arith}
 use Rattle.loops.specs.laws.ChoiceLaws.{either, when_true, when_false}
-use Rattle.text.specs.declared.page.Place.TheVariants.{At, Full}
-use Rattle.text.specs.Page.{Page as Put, puts}
+use Rattle.text.specs.Page.{Sheet as Put, puts}
 use Rattle.text.specs.laws.PageLaws.{length_laid}
 use Rattle.lines.specs.Lines.{refusal_line}
 use Rattle.rules.specs.Answers.{is_question_or_notice}
 use Rattle.rules.specs.State.{After, after}
 use Rattle.listing.specs.Types.{Run, Turn}
 use Rattle.listing.specs.Replies.{replied}
+use Rattle.job.specs.declared.form.ReadError.{ReadError}
+use Rattle.job.specs.Reading.{read_number}
 use Rattle.listing.specs.Printed.{line_of}
 use Rattle.listing.specs.Pages.{UnderWay, sheet_of, turn_of, onward, answered_at, answered, goes_on, filled, enough, Paged, stopped_of, paged_of, refused_at, page_from, next_page}
 use Rattle.listing.specs.laws.FilledLaws.{filled_stops, filled_more}
@@ -28,10 +29,10 @@ use Rattle.listing.specs.declared.pages.Stop.TheVariants.{Not, NoRoom, AtEnd}
 
 -- by how much the place moves; where there was no room, the text goes past the page
 abbrev Moves : List ℕ → ℕ → List ℕ → Put → Type 0
-Moves t at out (At next, page) = (next ≡ at + length t) × (length page ≡ length out)
-Moves t at out (Full, page) = (length out < at + length t) × (length page ≡ length out)
+Moves t at out (Some next, page) = (next ≡ at + length t) × (length page ≡ length out)
+Moves t at out (None, page) = (length out < at + length t) × (length page ≡ length out)
 
-put_moves : (t : List ℕ) (at : ℕ) (out : List ℕ) → Moves t at out (puts t (At at, out))
+put_moves : (t : List ℕ) (at : ℕ) (out : List ℕ) → Moves t at out (puts t (Some at, out))
 unfolding puts
 put_moves t at out =
     either (Moves t at out) (leb (at + length t) (length out))
@@ -42,7 +43,7 @@ put_moves t at out =
 
 abbrev pub FitsBy : List Float → Said → Run → List Float → List Float → Type 0
 FitsBy a (Told answer) run ws q = Fitting a (after (record { answer = answer; run = run }) ws q)
-FitsBy a (NoJob number) run ws q = Unit
+FitsBy a (NoJob why) run ws q = Unit
 FitsBy a Over run ws q = Unit
 
 abbrev pub ListingFits : List Float → After Listing → Type 0
@@ -70,11 +71,11 @@ module _ (a : List Float) where
       (j : ℕ) (g : After Turn) (at : ℕ) (out : List ℕ) (p : Put) → Fitting a g → is_question_or_notice g.is.answer ≡ false →
       ample ≤ length out → Moves (line_of g) at out p → Gives (filled j a (answered_at a g at p))
   unfolding onward
-  last_gives j g at out (At next, page) fits e room moved =
+  last_gives j g at out (Some next, page) fits e room moved =
       let short = last_line_short g e in
       rw (when_false (sheet_of (replied a g) next Not) (sheet_of g next AtEnd) e)
       (stopped_gives j (sheet_of g next AtEnd, page) refl (record { some = omega arith; follows = tt }))
-  last_gives j g at out (Full, page) fits e room moved =
+  last_gives j g at out (None, page) fits e room moved =
       let short = last_line_short g e in
       stopped_gives j (sheet_of g at NoRoom, page) refl (record { some = omega arith; follows = fits })
 
@@ -85,9 +86,9 @@ module _ (a : List Float) where
       ((next : ℕ) (page : List ℕ) → ample ≤ length page → Gives (filled j a (sheet_of (replied a g) next Not, page))) →
       Gives (filled j a (answered_at a g at p))
   unfolding onward
-  more_gives j g at out (At next, page) fits e short room moved next-gives =
+  more_gives j g at out (Some next, page) fits e short room moved next-gives =
       rw (when_true (sheet_of (replied a g) next Not) (sheet_of g next AtEnd) e) (next-gives next page (omega arith))
-  more_gives j g at out (Full, page) fits e short room moved next-gives =
+  more_gives j g at out (None, page) fits e short room moved next-gives =
       stopped_gives j (sheet_of g at NoRoom, page) refl (record { some = omega arith; follows = fits })
 
   -- wherever the page has come to
@@ -97,10 +98,10 @@ module _ (a : List Float) where
   unfolding answered
   filled_gives {k} {g} (fits_last e) j at out few most room =
       subst Gives (sym (filled_more j a (sheet_of g at Not, out) (omega arith) refl))
-      (last_gives (j - 1) g at out (puts (line_of g) (At at, out)) (k, omega arith, fits_last e) e room (put_moves _ _ _))
+      (last_gives (j - 1) g at out (puts (line_of g) (Some at, out)) (k, omega arith, fits_last e) e room (put_moves _ _ _))
   filled_gives {k} {g} (fits_more e short rest) j at out few most room =
       subst Gives (sym (filled_more j a (sheet_of g at Not, out) (omega arith) refl))
-      (more_gives (j - 1) g at out (puts (line_of g) (At at, out)) (k, omega arith, fits_more e short rest) e short room (put_moves _ _ _)
+      (more_gives (j - 1) g at out (puts (line_of g) (Some at, out)) (k, omega arith, fits_more e short rest) e short room (put_moves _ _ _)
       (λ next page roomy. filled_gives rest (j - 1) next page (omega arith) (omega arith) roomy))
 
   -- ---- a page
@@ -118,18 +119,18 @@ module _ (a : List Float) where
   paged_yields (s, out) g = record { some = g.some; fits = follows_fits s.is.stop (turn_of s) g.follows }
 
   refused_yields :
-      (number : ℕ) (run : Run) (ws q : List Float) (out : List ℕ) (p : Put) → ample ≤ length out → Moves (refusal_line number) 0 out p →
-      Yields (after (refused_at number run p).0 ws q, (refused_at number run p).1)
-  refused_yields number run ws q out (At next, page) room moved =
-      let short = refusal_short number in record { some = omega arith; fits = tt }
-  refused_yields number run ws q out (Full, page) room moved = let short = refusal_short number in absurd (omega arith)
+      (why : ReadError) (run : Run) (ws q : List Float) (out : List ℕ) (p : Put) → ample ≤ length out → Moves (refusal_line (read_number why)) 0 out p →
+      Yields (after (refused_at why run p).0 ws q, (refused_at why run p).1)
+  refused_yields why run ws q out (Some next, page) room moved =
+      let short = refusal_short (read_number why) in record { some = omega arith; fits = tt }
+  refused_yields why run ws q out (None, page) room moved = let short = refusal_short (read_number why) in absurd (omega arith)
 
   page_yields :
       (said : Said) (run : Run) (ws q : List Float) (out : List ℕ) → ample ≤ length out → FitsBy a said run ws q →
       (said ≡ Over) ⊎ Yields (page_from a said run ws q out)
   page_yields (Told answer) run ws q out room f = inr (paged_yields _ (filled_gives f.2 enough 0 out f.1 (omega arith) room))
-  page_yields (NoJob number) run ws q out room f =
-      inr (refused_yields number run ws q out (puts (refusal_line number) (At 0, out)) room (put_moves _ _ _))
+  page_yields (NoJob why) run ws q out room f =
+      inr (refused_yields why run ws q out (puts (refusal_line (read_number why)) (Some 0, out)) room (put_moves _ _ _))
   page_yields Over run ws q out room f = inl refl
 
   -- a listing is over, or its next page gives at least one byte

@@ -1,6 +1,6 @@
 -- The two jobs that docs/JOB-FORMAT.md prints, from the bytes of the file to the bytes that are printed, by computation: one component,
 -- 100,000 steps and then 1, Newton 4, from 0 to 1, first step 0.5, tolerances 1e-3 and 1e-6, y0 = 1, A = 0.
-use Rattle.std.specs.Prelude.{◌≡◌, refl, Bool, true, false, List, [], ◌∷◌, ◌++◌, ℕ, suc, take, Float}
+use Rattle.std.specs.Prelude.{◌≡◌, refl, Bool, true, false, List, [], ◌∷◌, ◌++◌, ℕ, suc, take, Float, None}
 use Rattle.std.proofs.Common.{◌∙◌, append-nil}
 use Rattle.std.proofs.lemmas.Bool.{false≢true}
 use Prim.Native.Char.{code}
@@ -38,7 +38,6 @@ use Rattle.text.specs.Words.{word_from}
 use Rattle.lines.specs.Lines.{spaced, line, hexes}
 use Rattle.job.specs.Packed.{head_bits, words_of}
 use Rattle.job.specs.Reading.{accepted_of, form_of, head_read, form_read, first_step_of, job_of, read_of, ReadOutcome, configuration_of}
-use Rattle.job.specs.Types.{Unset}
 use Rattle.job.specs.Right.{sum_turn, row_sum, right_turn, right_of}
 use Rattle.listing.specs.Replies.{replied}
 use Rattle.listing.specs.Printed.{lines_from, printed, reading, lines_for, line_of, blank_work, blank_question}
@@ -84,7 +83,7 @@ job_of_one_step = 0x04 ∷ 0x00 ∷ 0x00 ∷ 0x42 ∷ 0x00 ∷ doubles
 abbrev configured : ReadOutcome → Configuration
 configured (gives j, y0, a) = configuration_of j (take j.n y0)
 configured (refuses number, y0, a) =
-    configuration_of record { n = 0; max_steps = 0; newton_maxiter = 0; x0 = +0; xend = +0; first_step = Unset; rtol = +0; atol = +0 } []
+    configuration_of record { n = 0; max_steps = 0; newton_maxiter = 0; x0 = +0; xend = +0; first_step = None; rtol = +0; atol = +0 } []
 
 abbrev is_read : ReadOutcome → Bool
 is_read (gives j, y0, a) = true

@@ -1,6 +1,6 @@
 -- Two calls of the same state with the same reply, and two beginnings of the same problem, agree where their slices are long
 -- enough: the checks read lengths only, the stages read the needed places only, and the beginning writes each of those.
-use Rattle.std.specs.Prelude.{◌≡◌, List, [], ◌∷◌, ◌++◌, Bool, true, false, ℕ, zero, suc, ◌*◌, ◌≤◌, ltb, eqb, length, set, take, drop, replicate, Float}
+use Rattle.std.specs.Prelude.{◌≡◌, List, [], ◌∷◌, ◌++◌, Bool, true, false, ℕ, zero, suc, ◌*◌, ◌≤◌, ltb, eqb, length, set, take, drop, replicate, Float, Option, Some, None, Result, Ok, Err, ⊤}
 use Rattle.std.proofs.Math.Path.{refl}
 use Rattle.std.proofs.Common.{sym, ap, ◌∙◌, zero-add, add-one, arith, length-append, take_all, take_at, take-suc-set}
 use Rattle.std.proofs.lemmas.List.{replicate-append-replicate}
@@ -11,7 +11,7 @@ use Rattle.loops.specs.Loop.{loop}
 use Rattle.loops.specs.laws.Turned.{loop_more}
 use Rattle.loops.specs.Arithmetic.{+0}
 use Rattle.matrix.specs.Size.{max_n}
-use Rattle.rules.specs.Types.{Tolerance, Progress, Run, Turn, Reply, Awaited}
+use Rattle.rules.specs.Types.{Tolerance, Progress, Run, Turn, Reply, Awaited, Refusal}
 use Rattle.rules.specs.Places.{need}
 use Rattle.rules.specs.Moves.{fill_turn, filled}
 use Rattle.rules.specs.State.{After, after}
@@ -27,10 +27,6 @@ use Rattle.rules.specs.Begin.{begin_ws, ask_first, begin_run, begin_of}
 use Rattle.rules.specs.GoOn.{count_checked, go_checked, go_within, go_turn, go_on_of}
 use Rattle.rules.proofs.laws.GoOnLaws.{handed}
 use Rattle.rules.specs.Calls.{Configuration, beginning, beginning_checked, beginning_turn, beginning_passed, size, Untouched}
-use Rattle.rules.specs.declared.stages.Wants.{Wants}
-use Rattle.rules.specs.declared.stages.Wants.TheVariants.{Count, Unsuited}
-use Rattle.rules.specs.declared.stages.Check.{Check}
-use Rattle.rules.specs.declared.stages.Check.TheVariants.{Refuse, Passed}
 
 -- ---- a stage on the needed places
 
@@ -65,20 +61,20 @@ checks_alike : (w : Awaited) (p : Progress) (r : Reply) (values room room' quest
 unfolding go_checked
 checks_alike w p r values room room' questions questions' h h' e = rw (counts_alike (wants p.n w r))
   where
-    counts_alike : (v : Wants) → count_checked v p.n values room questions ≡ count_checked v p.n values room' questions'
-    counts_alike Unsuited = refl
-    counts_alike (Count k) = rw (le-ltb room (need p.n) h, le-ltb room' (need p.n) h', e)
+    counts_alike : (v : Option ℕ) → count_checked v p.n values room questions ≡ count_checked v p.n values room' questions'
+    counts_alike None = refl
+    counts_alike (Some k) = rw (le-ltb room (need p.n) h, le-ltb room' (need p.n) h', e)
 
 module _ (run : Run) (r : Reply) (values ws ws' q q' : List Float) where
   abbrev wide : ℕ
   wide = need run.at.n
 
-  turn_agrees : (c : Check) → go_checked run.awaited run.at r (length values) (length ws) (length q) ≡ c
+  turn_agrees : (c : Result ⊤ Refusal) → go_checked run.awaited run.at r (length values) (length ws) (length q) ≡ c
       → go_checked run.awaited run.at r (length values) (length ws') (length q') ≡ c
       → wide ≤ length ws → wide ≤ length ws' → take wide ws ≡ take wide ws' → Agree (go_turn run r values c ws q) (go_turn run r values c ws' q')
   unfolding go_within
-  turn_agrees (Refuse why) e e' h h' same = record { turns = refl; room = h; room' = h'; places = same; questions = refl }
-  turn_agrees Passed e e' h h' same =
+  turn_agrees (Err why) e e' h h' same = record { turns = refl; room = h; room' = h'; places = same; questions = refl }
+  turn_agrees (Ok tt) e e' h h' same =
       let passed = handed run.awaited run.at r values ws q e in
       let passed' = handed run.awaited run.at r values ws' q' e' in
       let s = replied_speaks run.at values (take wide ws) (length-take-le wide ws h) run.awaited r in
@@ -147,10 +143,10 @@ module _ (c : Configuration) where
       let same = begin_overwrites n c.y0 c.rtol c.rtols c.atol c.atols (take (need n) ws) (take (need n) ws') exact exact' in
       rw (← same) (stage_agrees (drop (need n) ws) (drop (need n) ws') q q' s k k')
 
-  begin_turn_agrees : (k : Check) (ws ws' q q' : List Float) → beginning_checked c ws q ≡ k → beginning_checked c ws' q' ≡ k
+  begin_turn_agrees : (k : Result ⊤ Refusal) (ws ws' q q' : List Float) → beginning_checked c ws q ≡ k → beginning_checked c ws' q' ≡ k
       → Agree (beginning_turn c k ws q) (beginning_turn c k ws' q')
-  begin_turn_agrees (Refuse why) ws ws' q q' e e' = record { turns = refl; room = omega arith; room' = omega arith; places = refl; questions = refl }
-  begin_turn_agrees Passed ws ws' q q' e e' =
+  begin_turn_agrees (Err why) ws ws' q q' e e' = record { turns = refl; room = omega arith; room' = omega arith; places = refl; questions = refl }
+  begin_turn_agrees (Ok tt) ws ws' q q' e e' =
       let passed = cleared _ n _ _ _ _ _ (length ws) (length q) e in
       let passed' = cleared _ n _ _ _ _ _ (length ws') (length q') e' in
       passed_agrees ws ws' q q' passed.works passed'.works passed.asks passed'.asks

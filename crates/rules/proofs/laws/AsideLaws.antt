@@ -1,7 +1,7 @@
 -- Every stage but an accepted step, a modification and the beginning writes aside of y's row in the workspace, before it or beyond it;
 -- so it keeps whatever survives that. One walk over the stages, for two things that do: the workspace's length (`LengthLaws`), and
 -- y itself (`YLaws`).
-use Rattle.std.specs.Prelude.{◌≡◌, List, ◌⊎◌, ℕ, ◌+◌, ◌*◌, ◌≤◌, ◌<◌, length, set, take, Float}
+use Rattle.std.specs.Prelude.{◌≡◌, List, ◌⊎◌, ℕ, ◌+◌, ◌*◌, ◌≤◌, ◌<◌, length, set, take, Float, Option}
 use Rattle.std.proofs.Common.{inl, inr, arith}
 use Rattle.loops.specs.Loop.{loop}
 use Rattle.loops.specs.Part.{part, over}
@@ -11,7 +11,7 @@ use Rattle.loops.specs.laws.RowLaws.{inside}
 use Rattle.matrix.specs.Lu.{lu_decomp_of}
 use Rattle.matrix.specs.Linear.{lin_solve_of}
 use Rattle.matrix.proofs.laws.LengthLaws.{factors_long, solution_long}
-use Rattle.rules.specs.Types.{Progress, Pace, Tolerance, Scalar, Vector}
+use Rattle.rules.specs.Types.{Progress, Pace, Tolerance, Scalar, Vector, Aim}
 use Rattle.rules.specs.State.{Left}
 use Rattle.rules.specs.Places.{row, y, rhs, d}
 use Rattle.rules.specs.Moves.{copy_turn, copied, fill_turn, filled, load_turn, loaded}
@@ -27,7 +27,6 @@ use Rattle.rules.specs.Step.{error_ws}
 use Rattle.rules.specs.Reply.{first_turn, first_difference, differences}
 use Rattle.rules.specs.Begin.{tolerances}
 use Rattle.rules.proofs.laws.RescaleLaws.{change_d_length}
-use Rattle.rules.specs.declared.stages.Aimed.{Aimed}
 
 -- what survives a number stored aside of y's row, and a part before it that is put anew and keeps its length
 pub record Survives (n : ℕ) (P : List Float → Type 0) : Type 0 where
@@ -172,6 +171,6 @@ module _ (r : Progress) {P : List Float → Type 0} (s : Survives r.n P) where
   pub aimed_keeps : (ws : List Float) → P ws → P (aimed r ws).ws
   unfolding aimed cut_at_end
   aimed_keeps ws p =
-      either (λ (a : Left Aimed). P a.ws) _
-      (λ _. either (λ (a : Left Aimed). P a.ws) _ (λ _. p) (λ _. rescaled_keeps s _ _ ws p))
+      either (λ (a : Left (Option (Pace × Aim))). P a.ws) _
+      (λ _. either (λ (a : Left (Option (Pace × Aim))). P a.ws) _ (λ _. p) (λ _. rescaled_keeps s _ _ ws p))
       (λ _. p)

@@ -1,17 +1,15 @@
 -- What an attempt comes to, whatever the floats are: read off the definition test by test.
-use Rattle.std.specs.Prelude.{◌≡◌, List, Bool, ◌≤◌, ◌<◌, Float}
+use Rattle.std.specs.Prelude.{◌≡◌, List, Bool, ◌≤◌, ◌<◌, Float, Option, Some, None}
 use Rattle.std.proofs.Math.Path.{refl}
 use Rattle.std.proofs.Common.{inl, inr, le_trans, arith, leb-true, leb-false, le-leb}
 use Rattle.loops.specs.Choice.{when◌then◌else◌}
 use Rattle.loops.specs.laws.ChoiceLaws.{either, when_true}
-use Rattle.rules.specs.Types.{Progress, Pace, Success, NeedLargerNMax, StepSizeTooSmall}
+use Rattle.rules.specs.Types.{Progress, Pace, Success, NeedLargerNMax, StepSizeTooSmall, Aim}
 use Rattle.rules.specs.State.{with_pace, changed, After, after, Left, left}
 use Rattle.rules.specs.laws.Moved.{Moved}
 use Rattle.rules.proofs.laws.MovedLaws.{moved_on, factoring_spared, stays, pace_moves, aim_moves, newton_moves, total_moves, rejected_moves, factored_moves, singular_moves}
 use Rattle.rules.specs.Attempt.{to_hmax, to_hmin, fitted, aimed, cut_at_end, halved, newton_start, refactored, attempt_at, unless_stuck, headed, fitted_attempt, attempt, Tried, says, end}
 use Rattle.rules.specs.laws.Said.{Cause, ends, asks, Tries}
-use Rattle.rules.specs.declared.stages.Aimed.{Aimed}
-use Rattle.rules.specs.declared.stages.Aimed.TheVariants.{At, AtEnd}
 
 -- ---- the step's size: a step that is changed is the first of its size
 
@@ -24,15 +22,15 @@ unfolding fitted to_hmax to_hmin
 fitted_equals p ws = le_trans (changed_or_same _ _ _ _ _) (changed_or_same _ _ _ _ _)
 
 -- what an aim tells
-abbrev AimTells : Progress → Aimed → Type 0
-AimTells p AtEnd = Cause Success p
-AimTells p (At g a) = g.equal_steps ≤ p.pace.equal_steps
+abbrev AimTells : Progress → Option (Pace × Aim) → Type 0
+AimTells p None = Cause Success p
+AimTells p (Some (g, a)) = g.equal_steps ≤ p.pace.equal_steps
 
 aimed_tells : (p : Progress) (ws : List Float) → AimTells p (aimed p ws).is
 unfolding aimed cut_at_end
 aimed_tells p ws =
-    either (λ (a : Left Aimed). AimTells p a.is) _
-    (λ _. either (λ (a : Left Aimed). AimTells p a.is) _ (λ e. e) (λ _. omega arith))
+    either (λ (a : Left (Option (Pace × Aim))). AimTells p a.is) _
+    (λ _. either (λ (a : Left (Option (Pace × Aim))). AimTells p a.is) _ (λ e. e) (λ _. omega arith))
     (λ _. omega arith)
 
 -- ---- the attempt's parts, last first, from a state r that p moved to
@@ -62,9 +60,9 @@ module _ (p : Progress) (had : p.steps.total < p.limits.steps) where
       (λ e. (ends {k = 0} StepSizeTooSmall refl (inr e) (omega arith) m))
       (λ _. attempt_at_tries _ _ (moved_on m (total_moves r)))
 
-  headed_tries : {r : Progress} (a : Aimed) (ws q : List Float) → Moved p r 0 0 0 0 0 0 p.order → AimTells r a → Tries p (headed r a ws q).is
-  headed_tries AtEnd ws q m e = (ends {k = 0} Success refl e (omega arith) m)
-  headed_tries {r} (At g a) ws q m e = unless_stuck_tries ws q (moved_on (moved_on m (pace_moves r e)) (aim_moves (with_pace r g) a))
+  headed_tries : {r : Progress} (a : Option (Pace × Aim)) (ws q : List Float) → Moved p r 0 0 0 0 0 0 p.order → AimTells r a → Tries p (headed r a ws q).is
+  headed_tries None ws q m e = (ends {k = 0} Success refl e (omega arith) m)
+  headed_tries {r} (Some (g, a)) ws q m e = unless_stuck_tries ws q (moved_on (moved_on m (pace_moves r e)) (aim_moves (with_pace r g) a))
 
   fitted_attempt_tries : (ws q : List Float) → Tries p (fitted_attempt p ws q).is
   unfolding fitted_attempt

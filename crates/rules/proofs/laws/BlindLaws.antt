@@ -2,14 +2,14 @@
 -- stage, last first. Every field that a stage reads is the same in both, so that most of it computes; a choice goes by the same test in
 -- both (`through`). In the judgement the guard matters only where the error norm is NaN: the law of a reply assumes that the reply leads to
 -- no judgement of such a norm (`Quiet`).
-use Rattle.std.specs.Prelude.{◌≡◌, List, Bool, true, false, Float}
+use Rattle.std.specs.Prelude.{◌≡◌, List, Bool, true, false, Float, Option, Some, None}
 use Rattle.std.proofs.Math.Path.{refl, ap}
 use Rattle.std.proofs.Common.{◌∙◌}
 use Prim.Native.Nat.{ℕ, zero, suc}
 use Rattle.std.specs.Float.Ieee.{is_nan}
 use Rattle.loops.specs.laws.ChoiceLaws.{through}
 use Rattle.loops.specs.Arithmetic.{◌⊗◌}
-use Rattle.rules.specs.Types.{Progress, Turn, Answer, Awaited, Reply, Setting, Unset, Given, Values, Continue, Interrupt, Modified}
+use Rattle.rules.specs.Types.{Progress, Turn, Answer, Awaited, Reply, Values, Continue, Interrupt, Modified, Pace, Aim}
 use Rattle.rules.specs.Types.{FirstDerivative, FirstJacobian, StartDerivative, StartNotice, ModifiedStartDerivative, ModifiedStartJacobian, NewtonDerivative, FailedJacobian, StepNotice, ModifiedStepDerivative, ModifiedStepJacobian, OrderJacobian, Ended}
 use Rattle.rules.specs.State.{with_pace, with_aim, with_newton, with_x, with_order, changed, turn, ode+1, jac+1, start_asked, total+1, rejected+1, After, after}
 use Rattle.rules.specs.Newton.{converged}
@@ -20,8 +20,6 @@ use Rattle.rules.specs.Reply.{jacobian_stored, started, hinit_asks, first_step, 
 use Rattle.rules.specs.Beside.{Unread, beside, tried_beside, attempt_beside, call_beside}
 use Rattle.rules.specs.Guarding.{judged_norm, is_judged, error_norm}
 use Rattle.rules.specs.declared.stages.Choice.{Choice}
-use Rattle.rules.specs.declared.stages.Aimed.{Aimed}
-use Rattle.rules.specs.declared.stages.Aimed.TheVariants.{At, AtEnd}
 
 -- the error's test on a norm that is a number does not turn on the guard
 number_fails_alike : (norm : Float) (b b' : Bool) → is_nan norm ≡ false → error_fails b norm ≡ error_fails b' norm
@@ -83,9 +81,9 @@ module _ (u : Unread) where
   unfolding unless_stuck
   unless_stuck_blind p ws q = through (attempt_beside u) refl (λ _. says_blind _ _ p ws q) (λ _. attempt_at_blind (total+1 p) ws q)
 
-  headed_blind : (p : Progress) (a : Aimed) (ws q : List Float) → headed (beside u p) a ws q ≡ attempt_beside u (headed p a ws q)
-  headed_blind p AtEnd ws q = says_blind _ _ p ws q
-  headed_blind p (At g a) ws q = unless_stuck_blind (with_aim (with_pace p g) a) ws q
+  headed_blind : (p : Progress) (a : Option (Pace × Aim)) (ws q : List Float) → headed (beside u p) a ws q ≡ attempt_beside u (headed p a ws q)
+  headed_blind p None ws q = says_blind _ _ p ws q
+  headed_blind p (Some (g, a)) ws q = unless_stuck_blind (with_aim (with_pace p g) a) ws q
 
   fitted_attempt_blind : (p : Progress) (ws q : List Float) → fitted_attempt (beside u p) ws q ≡ attempt_beside u (fitted_attempt p ws q)
   unfolding fitted_attempt fitted aimed cut_at_end
@@ -164,10 +162,10 @@ module _ (u : Unread) where
   unfolding started
   started_blind p h ws q = tells_blind _ _ (with_pace p _) _ _
 
-  first_step_blind : (p : Progress) (s : Setting) (ws q : List Float) → first_step (beside u p) s ws q ≡ call_beside u (first_step p s ws q)
+  first_step_blind : (p : Progress) (s : Option Float) (ws q : List Float) → first_step (beside u p) s ws q ≡ call_beside u (first_step p s ws q)
   unfolding first_step hinit_asks
-  first_step_blind p Unset ws q = tells_blind _ _ (start_asked p) _ _
-  first_step_blind p (Given x) ws q = started_blind p _ ws q
+  first_step_blind p None ws q = tells_blind _ _ (start_asked p) _ _
+  first_step_blind p (Some x) ws q = started_blind p _ ws q
 
   -- ---- the choice of order, and what follows a step
 

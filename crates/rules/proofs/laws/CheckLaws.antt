@@ -1,6 +1,6 @@
 -- What holds of the beginning's checks: a tolerance that reaches n components reaches each of them, the search for a negative
 -- one goes index by index, and checks that passed leave enough room.
-use Rattle.std.specs.Prelude.{◌≡◌, refl, List, true, false, ◌&&◌, ◌||◌, ltb, eqb, length, Float}
+use Rattle.std.specs.Prelude.{◌≡◌, refl, List, true, false, ◌&&◌, ◌||◌, ltb, eqb, length, Float, Result, Ok, Err, ⊤}
 use Prim.Native.Nat.{ℕ, suc, ◌+◌, ◌-◌, ◌*◌, ◌≤◌, ◌<◌}
 use native.Mathlib.Omega.{arith}
 use Rattle.std.specs.Float.Ieee
@@ -8,14 +8,12 @@ use Rattle.std.proofs.Common.{leb-true, le-leb, ltb-false}
 use Rattle.std.proofs.lemmas.Bool.{eqb-false}
 use Rattle.loops.specs.Choice.{when◌then◌else◌}
 use Rattle.loops.specs.laws.ChoiceLaws.{and_first, and_second}
-use Rattle.rules.specs.Types.{Tolerance, Scalar, Vector, Relative, Absolute, NegativeTolerance}
+use Rattle.rules.specs.Types.{Tolerance, Scalar, Vector, Relative, Absolute, NegativeTolerance, Refusal}
 use Rattle.loops.specs.Arithmetic.{+0}
 use Rattle.rules.specs.Places.{need}
 use Rattle.rules.specs.Checks.{entry, reaches, negative, limited, or_else, tolerances_checked, checked}
 use Rattle.rules.proofs.laws.PassedLaws.{refusal_is_no_pass, passed_test, passed_rest, passed_condition, passed_way, or_first, or_second}
 use Rattle.rules.specs.declared.settings.BDF.{BDF}
-use Rattle.rules.specs.declared.stages.Check.{Check}
-use Rattle.rules.specs.declared.stages.Check.TheVariants.{Refuse, Passed}
 
 -- ---- tolerances
 
@@ -30,12 +28,12 @@ vector_reaches values n e h = leb-true n (length values) (rw e at h)
 
 module _ (r : Tolerance) (rs : List Float) (a : Tolerance) (als : List Float) {n i : ℕ} where
   pub relative_found :
-      {v : Float} → i < n → v ≡ entry r rs i → Ieee.lt v +0 ≡ true → negative r rs a als (n - i) i ≡ Refuse (NegativeTolerance Relative i v)
+      {v : Float} → i < n → v ≡ entry r rs i → Ieee.lt v +0 ≡ true → negative r rs a als (n - i) i ≡ Err (NegativeTolerance Relative i v)
   unfolding negative when◌then◌else◌
   relative_found l e t = let s : n - i ≡ suc (n - (i + 1)) = omega arith in rw (s, ← e, t)
 
   pub absolute_found : {v w : Float} → i < n → v ≡ entry r rs i → Ieee.lt v +0 ≡ false → w ≡ entry a als i → Ieee.lt w +0 ≡ true
-      → negative r rs a als (n - i) i ≡ Refuse (NegativeTolerance Absolute i w)
+      → negative r rs a als (n - i) i ≡ Err (NegativeTolerance Absolute i w)
   unfolding negative when◌then◌else◌
   absolute_found l e t f u = let s : n - i ≡ suc (n - (i + 1)) = omega arith in rw (s, ← e, t, ← f, u)
 
@@ -44,7 +42,7 @@ module _ (r : Tolerance) (rs : List Float) (a : Tolerance) (als : List Float) {n
   unfolding negative when◌then◌else◌
   none_negative_here l e t f u = let s : n - i ≡ suc (n - (i + 1)) = omega arith in rw (s, ← e, t, ← f, u)
 
-  pub none_left : n ≤ i → negative r rs a als (n - i) i ≡ Passed
+  pub none_left : n ≤ i → negative r rs a als (n - i) i ≡ Ok tt
   unfolding negative
   none_left l = let s : n - i ≡ 0 = omega arith in rw s
 
@@ -58,7 +56,7 @@ pub record Cleared (n : ℕ) (r : Tolerance) (rs : List Float) (a : Tolerance) (
   pub absolute : reaches a als n ≡ true
 
 pub cleared : (s : BDF) (n : ℕ) (direction : Float) (r : Tolerance) (rs : List Float) (a : Tolerance) (als : List Float) (room questions : ℕ)
-    → checked s n direction r rs a als room questions ≡ Passed → Cleared n r rs a als room questions
+    → checked s n direction r rs a als room questions ≡ Ok tt → Cleared n r rs a als room questions
 unfolding checked tolerances_checked
 cleared s n direction r rs a als room questions e =
     let past_room = passed_rest (ltb room (need n)) _ _ e in
@@ -77,7 +75,7 @@ pub record Bounded (s : BDF) : Type 0 where
   pub patient : s.max_steps ≤ 1000000
   pub patience : s.newton_maxiter ≤ 64
 
-limits_bounded : (s : BDF) (direction : Float) → limited s direction ≡ Passed → Bounded s
+limits_bounded : (s : BDF) (direction : Float) → limited s direction ≡ Ok tt → Bounded s
 unfolding limited
 limits_bounded s direction e =
     let past-none = passed_rest (eqb s.max_steps 0) _ _ e in
@@ -88,12 +86,12 @@ limits_bounded s direction e =
       patience = ltb-false 64 s.newton_maxiter (or_second (ltb 1000000 s.max_steps) _ small);
     }
 
-passed_both : (k l : Check) → or_else k l ≡ Passed → l ≡ Passed
-passed_both Passed l e = e
-passed_both (Refuse why) l e = absurd (refusal_is_no_pass why e)
+passed_both : (k l : Result ⊤ Refusal) → or_else k l ≡ Ok tt → l ≡ Ok tt
+passed_both (Ok tt) l e = e
+passed_both (Err why) l e = absurd (refusal_is_no_pass why e)
 
 pub bounded : (s : BDF) (n : ℕ) (direction : Float) (r : Tolerance) (rs : List Float) (a : Tolerance) (als : List Float) (room questions : ℕ)
-    → checked s n direction r rs a als room questions ≡ Passed → Bounded s
+    → checked s n direction r rs a als room questions ≡ Ok tt → Bounded s
 unfolding checked tolerances_checked
 bounded s n direction r rs a als room questions e =
     let past_room = passed_rest (ltb room (need n)) _ _ e in

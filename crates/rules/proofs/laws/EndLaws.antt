@@ -1,7 +1,7 @@
 -- Every reply leads to an end only for its reason, and to an x and y that the caller knows: stage by stage, read off the definition.
 -- An end stands behind the very test that is its reason. x moves only where a step is accepted, which the notice tells, and where the
 -- caller modifies; y's row is written only there too (`YLaws`).
-use Rattle.std.specs.Prelude.{◌≡◌, List, false, length, Float}
+use Rattle.std.specs.Prelude.{◌≡◌, List, false, length, Float, Option, Some, None}
 use Rattle.std.proofs.Math.Path.{refl, sym}
 use Rattle.std.proofs.Common.{true≢false, arith}
 use Rattle.std.proofs.Math.Logic.{inl, inr}
@@ -9,7 +9,7 @@ use Prim.Native.Nat.{ℕ, zero, suc, ◌*◌, ◌≤◌}
 use borrow.Author.Tests.{leb-true}
 use Rattle.loops.specs.laws.ChoiceLaws.{either}
 use Rattle.loops.specs.Arithmetic.{◌⊗◌}
-use Rattle.rules.specs.Types.{Progress, Turn, Awaited, Reply, Setting, Unset, Given, Values, Continue, Interrupt, Modified, UserInterrupt, FirstDerivative, FirstJacobian, StartDerivative, StartNotice, ModifiedStartDerivative, ModifiedStartJacobian, NewtonDerivative, FailedJacobian, StepNotice, ModifiedStepDerivative, ModifiedStepJacobian, OrderJacobian, Ended}
+use Rattle.rules.specs.Types.{Progress, Turn, Awaited, Reply, Values, Continue, Interrupt, Modified, UserInterrupt, FirstDerivative, FirstJacobian, StartDerivative, StartNotice, ModifiedStartDerivative, ModifiedStartJacobian, NewtonDerivative, FailedJacobian, StepNotice, ModifiedStepDerivative, ModifiedStepJacobian, OrderJacobian, Ended, Pace, Aim}
 use Rattle.rules.specs.State.{with_pace, After, after, Left}
 use Rattle.rules.specs.Places.{need, row, y, y_new, y_predict, delta, f0, vector}
 use Rattle.rules.specs.Moves.{loaded}
@@ -27,9 +27,6 @@ use Rattle.rules.proofs.laws.YLaws.{y_survives}
 use Rattle.rules.specs.laws.Leading.{AsKnown, Holds, Meets, Leads}
 use Rattle.rules.proofs.laws.ToldLaws.{notice_first, differences_told, loaded_is}
 use Rattle.rules.specs.declared.stages.Choice.{Choice}
-use Rattle.rules.specs.declared.stages.Wants.TheVariants.{Count, Unsuited}
-use Rattle.rules.specs.declared.stages.Aimed.{Aimed}
-use Rattle.rules.specs.declared.stages.Aimed.TheVariants.{At, AtEnd}
 
 -- x and y after a stage that leaves both
 now : {x z : Float} {v u w : List Float} → AsKnown x v z u → w ≡ v → AsKnown x v z w
@@ -81,20 +78,20 @@ module _ (i : Type 0) (x : Float) (v : List Float) where
       (λ _. attempt_at_comes _ ws q h)
 
   -- what an aim tells: its step is the one of its pace, or nothing is left of the way
-  abbrev AimTells : Progress → Aimed → Type 0
-  AimTells p AtEnd = Arrived p.span.direction p.span.xend p.x
-  AimTells p (At g a) = a.h_signed ≡ p.span.direction ⊗ g.h
+  abbrev AimTells : Progress → Option (Pace × Aim) → Type 0
+  AimTells p None = Arrived p.span.direction p.span.xend p.x
+  AimTells p (Some (g, a)) = a.h_signed ≡ p.span.direction ⊗ g.h
 
   aimed_tells : (p : Progress) (ws : List Float) → AimTells p (aimed p ws).is
   unfolding aimed cut_at_end
   aimed_tells p ws =
-      either (λ (a : Left Aimed). AimTells p a.is) _
-      (λ _. either (λ (a : Left Aimed). AimTells p a.is) _ (λ e. inr e) (λ _. refl))
+      either (λ (a : Left (Option (Pace × Aim))). AimTells p a.is) _
+      (λ _. either (λ (a : Left (Option (Pace × Aim))). AimTells p a.is) _ (λ e. inr e) (λ _. refl))
       (λ _. refl)
 
-  headed_comes : (p : Progress) (a : Aimed) (ws q : List Float) → AimTells p a → Holds x v p ws → Comes (headed p a ws q)
-  headed_comes p AtEnd ws q t h = record { because = (refl, t); holds = h }
-  headed_comes p (At g a) ws q t h = unless_stuck_comes _ ws q t h
+  headed_comes : (p : Progress) (a : Option (Pace × Aim)) (ws q : List Float) → AimTells p a → Holds x v p ws → Comes (headed p a ws q)
+  headed_comes p None ws q t h = record { because = (refl, t); holds = h }
+  headed_comes p (Some (g, a)) ws q t h = unless_stuck_comes _ ws q t h
 
   attempt_comes : (p : Progress) (ws q : List Float) → Holds x v p ws → Comes (attempt p ws q)
   unfolding attempt fitted_attempt
@@ -181,12 +178,12 @@ module _ (i : Type 0) (x : Float) (v : List Float) where
       record { because = tt; holds = record { place = refl; shows = differences_told p.n _ _ ws q long asks } }
 
   first_step_leads :
-      (p : Progress) (s : Setting) (ws q : List Float) → length ws ≡ need p.n → 8 * p.n ≤ length q → Holds x v p ws →
+      (p : Progress) (s : Option Float) (ws q : List Float) → length ws ≡ need p.n → 8 * p.n ≤ length q → Holds x v p ws →
       Leads i x v (first_step p s ws q)
   unfolding first_step hinit_asks
-  first_step_leads p Unset ws q long asks h =
+  first_step_leads p None ws q long asks h =
       record { because = tt; holds = now h (euler_keeps (sees p) _ ws h.shows) }
-  first_step_leads p (Given z) ws q long asks h = started_leads p _ ws q long asks
+  first_step_leads p (Some z) ws q long asks h = started_leads p _ ws q long asks
 
   -- ---- after a step
 
@@ -260,7 +257,7 @@ module _ (i : Type 0) (x : Float) (v : List Float) where
 
 -- ---- by the reply
 
-unsuited : {k : ℕ} {a : Type 0} → Unsuited ≡ Count k → a
+unsuited : {k : ℕ} {a : Type 0} → None ≡ Some k → a
 unsuited e = let z : ◌≡◌ {A = ℕ} 0 1 = cc in absurd (omega arith)
 
 module _ (x : Float) (v : List Float) (p : Progress) (values ws q : List Float) (m : Meets x v p ws q) where
@@ -273,27 +270,27 @@ module _ (x : Float) (v : List Float) (p : Progress) (values ws q : List Float) 
   modified_leads w z enough =
       record { because = tt; holds = record { place = refl; shows = loaded_is values p.n ws enough (omega arith) } }
 
-  start_noticed_leads : {k : ℕ} (r : Reply) → word_wants p.n r ≡ Count k → k ≤ length values → Replied r (start_noticed p r values ws q)
+  start_noticed_leads : {k : ℕ} (r : Reply) → word_wants p.n r ≡ Some k → k ≤ length values → Replied r (start_noticed p r values ws q)
   start_noticed_leads Values e enough = loop_leads _ x v p ws q m.within m.holds
   start_noticed_leads Continue e enough = loop_leads _ x v p ws q m.within m.holds
   start_noticed_leads Interrupt e enough = record { because = (refl, refl); holds = m.holds }
   start_noticed_leads {k} (Modified z) e enough = let all : p.n ≡ k = cc in modified_leads ModifiedStartDerivative z (omega arith)
 
-  step_noticed_leads : {k : ℕ} (r : Reply) → word_wants p.n r ≡ Count k → k ≤ length values → Replied r (step_noticed p r values ws q)
+  step_noticed_leads : {k : ℕ} (r : Reply) → word_wants p.n r ≡ Some k → k ≤ length values → Replied r (step_noticed p r values ws q)
   step_noticed_leads Values e enough = stepped_leads _ x v p ws q m.within m.holds
   step_noticed_leads Continue e enough = stepped_leads _ x v p ws q m.within m.holds
   step_noticed_leads Interrupt e enough = record { because = (refl, refl); holds = m.holds }
   step_noticed_leads {k} (Modified z) e enough = let all : p.n ≡ k = cc in modified_leads ModifiedStepDerivative z (omega arith)
 
   -- only values suit a question: so x and v stay
-  question_leads : {k : ℕ} (many : ℕ) (r : Reply) (t : After Turn) → values_want many r ≡ Count k → Leads (r ≡ Interrupt) x v t → Replied r t
+  question_leads : {k : ℕ} (many : ℕ) (r : Reply) (t : After Turn) → values_want many r ≡ Some k → Leads (r ≡ Interrupt) x v t → Replied r t
   question_leads many Values t e l = l
   question_leads many Continue t e l = unsuited e
   question_leads many Interrupt t e l = unsuited e
   question_leads many (Modified z) t e l = unsuited e
 
   pub replied_means :
-      {k : ℕ} (w : Awaited) (r : Reply) → is_ended w ≡ false → wants p.n w r ≡ Count k → k ≤ length values →
+      {k : ℕ} (w : Awaited) (r : Reply) → is_ended w ≡ false → wants p.n w r ≡ Some k → k ≤ length values →
       Replied r (replied w p r values ws q)
   replied_means FirstDerivative r going e enough = question_leads _ r _ e (first_derivative_leads _ x v p values ws q m)
   replied_means FirstJacobian r going e enough = question_leads _ r _ e (first_jacobian_leads _ x v p values ws q m)
@@ -312,7 +309,7 @@ module _ (x : Float) (v : List Float) (p : Progress) (values ws q : List Float) 
 -- ---- an interruption: only notices take it, and nothing changes
 
 pub interrupted :
-    {k : ℕ} (w : Awaited) (p : Progress) (values ws q : List Float) → wants p.n w Interrupt ≡ Count k →
+    {k : ℕ} (w : Awaited) (p : Progress) (values ws q : List Float) → wants p.n w Interrupt ≡ Some k →
     replied w p Interrupt values ws q ≡ after (end UserInterrupt p) ws q
 interrupted FirstDerivative p values ws q e = unsuited e
 interrupted FirstJacobian p values ws q e = unsuited e

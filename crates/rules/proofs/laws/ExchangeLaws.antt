@@ -1,6 +1,6 @@
 -- What holds in every exchange, by induction over its calls: what the beginning set is as the configuration says, the counters
 -- stand by the table of places, and the pivots come from factorings.
-use Rattle.std.specs.Prelude.{◌≡◌, refl, List, [], ◌∷◌, false, ◌≤◌, max, length, replicate, Float}
+use Rattle.std.specs.Prelude.{◌≡◌, refl, List, [], ◌∷◌, false, ◌≤◌, max, length, replicate, Float, Ok}
 use Rattle.std.proofs.Common.{sym, ap, ◌∙◌, subst, true≢false}
 use Rattle.std.proofs.lemmas.Bool.{false≢true}
 use native.Mathlib.Omega.{arith}
@@ -22,7 +22,6 @@ use Rattle.rules.specs.History.{called, Exchange, begins, goes_on, is_refused_ca
 use Rattle.rules.specs.laws.Standing.{here, Stands, Stays, Tells}
 use Rattle.rules.proofs.laws.HistoryLaws.{automatic_early}
 use Rattle.rules.proofs.laws.PlaceLaws.{replied_leads}
-use Rattle.rules.specs.declared.stages.Check.TheVariants.{Passed}
 
 -- what the beginning set, in a state of n components
 pub record Set (c : Configuration) (p : Progress) : Type 0 where
@@ -49,7 +48,7 @@ pub data Kept (c : Configuration) : Run → List Answer → Type 0 where
 
 module _ (c : Configuration) where
   passed_begins :
-      (ws q : List Float) → 1 ≤ length c.y0 → length c.y0 ≤ max_n → beginning_checked c ws q ≡ Passed →
+      (ws q : List Float) → 1 ≤ length c.y0 → length c.y0 ≤ max_n → beginning_checked c ws q ≡ Ok tt →
       let t = (beginning_passed c ws q).is in Kept c t.run (t.answer ∷ [])
   unfolding begin_run ask_first kept span_of
   passed_begins ws q some few e =
@@ -102,7 +101,7 @@ module _ {c : Configuration} where
       }
 
   passed_kept :
-      {run : Run} {h : List Answer} → Kept c run h → (call : Call) → going_on_checked run call ≡ Passed →
+      {run : Run} {h : List Answer} → Kept c run h → (call : Call) → going_on_checked run call ≡ Ok tt →
       let t = (going_on_passed run call).is in Kept c t.run (t.answer ∷ h)
   unfolding go_within
   passed_kept (idle none) call e =

@@ -1,6 +1,6 @@
 -- What holds of the checks on going on as a whole: past them the state has components and is sound, the slices are long
 -- enough, and the reply suits.
-use Rattle.std.specs.Prelude.{◌≡◌, refl, List, Bool, true, false, ◌||◌, ℕ, ◌*◌, ◌≤◌, ltb, eqb, length, Float}
+use Rattle.std.specs.Prelude.{◌≡◌, refl, List, Bool, true, false, ◌||◌, ℕ, ◌*◌, ◌≤◌, ltb, eqb, length, Float, Option, Some, None, Ok, Err}
 use Rattle.std.proofs.Common.{sym, arith}
 use Rattle.std.proofs.Math.Bool.{true≢false}
 use borrow.Author.Tests.{ltb-false, eqb-false, le-ltb}
@@ -15,9 +15,6 @@ use Rattle.rules.specs.Replies.{is_ended, wants}
 use Rattle.rules.specs.GoOn.{damaged, count_checked, go_checked}
 use Rattle.rules.proofs.laws.DamageLaws.{Sound, sound, sound_is_sane, sound_is_awake}
 use Rattle.rules.proofs.laws.PassedLaws.{refusal_is_no_pass, passed_test, passed_rest, or_first, or_second}
-use Rattle.rules.specs.declared.stages.Wants.{Wants}
-use Rattle.rules.specs.declared.stages.Wants.TheVariants.{Count, Unsuited}
-use Rattle.rules.specs.declared.stages.Check.TheVariants.{Refuse, Passed}
 
 -- ---- the state
 
@@ -45,16 +42,16 @@ module _ (w : Awaited) (p : Progress) (whole : damaged w p ≡ false) where
 
 -- ---- the reply and the slices
 
-record Fitting (v : Wants) (n values room questions : ℕ) : Type 0 where
+record Fitting (v : Option ℕ) (n values room questions : ℕ) : Type 0 where
   count : ℕ
-  suits : v ≡ Count count
+  suits : v ≡ Some count
   works : need n ≤ room
   asks : 8 * n ≤ questions
   enough : count ≤ values
 
-fitting : (v : Wants) (n values room questions : ℕ) → count_checked v n values room questions ≡ Passed → Fitting v n values room questions
-fitting Unsuited n values room questions e = absurd (refusal_is_no_pass _ e)
-fitting (Count k) n values room questions e =
+fitting : (v : Option ℕ) (n values room questions : ℕ) → count_checked v n values room questions ≡ Ok tt → Fitting v n values room questions
+fitting None n values room questions e = absurd (refusal_is_no_pass _ e)
+fitting (Some k) n values room questions e =
     let none = passed_test (ltb room (need n) || (ltb questions (8 * n) || ltb values k)) _ _ e in
     let past_room = or_second (ltb room (need n)) _ none in
     record {
@@ -68,7 +65,7 @@ fitting (Count k) n values room questions e =
 -- ---- the whole
 
 pub handed : (w : Awaited) (p : Progress) (r : Reply) (values ws q : List Float)
-    → go_checked w p r (length values) (length ws) (length q) ≡ Passed → Handed w p r values ws q
+    → go_checked w p r (length values) (length ws) (length q) ≡ Ok tt → Handed w p r values ws q
 unfolding go_checked
 handed w p r values ws q e =
     let past-damage = passed_rest (damaged w p) _ _ e in
@@ -88,12 +85,12 @@ handed w p r values ws q e =
 
 module _ (w : Awaited) (p : Progress) (r : Reply) (values room questions : ℕ) (whole : damaged w p ≡ false) where
   pub suited_passes :
-      {k : ℕ} → is_ended w ≡ false → wants p.n w r ≡ Count k → need p.n ≤ room → 8 * p.n ≤ questions → k ≤ values →
-      go_checked w p r values room questions ≡ Passed
+      {k : ℕ} → is_ended w ≡ false → wants p.n w r ≡ Some k → need p.n ≤ room → 8 * p.n ≤ questions → k ≤ values →
+      go_checked w p r values room questions ≡ Ok tt
   unfolding go_checked when◌then◌else◌
   suited_passes {k} going suits works asks enough =
       rw (whole, going, suits, le-ltb room (need p.n) works, le-ltb questions (8 * p.n) asks, le-ltb values k enough)
 
-  pub ended_refuses : is_ended w ≡ true → go_checked w p r values room questions ≡ Refuse HasEnded
+  pub ended_refuses : is_ended w ≡ true → go_checked w p r values room questions ≡ Err HasEnded
   unfolding go_checked when◌then◌else◌
   ended_refuses over = rw (whole, over)

@@ -1,13 +1,13 @@
 -- A guarded run and an unguarded one, call by call: beginning and going on with the guard set otherwise do the same, but for the guard in
 -- the state, as long as no attempt is judged whose error norm is NaN. The checks do not read the guard, and no stage but the judgement
 -- does (BlindLaws).
-use Rattle.std.specs.Prelude.{◌≡◌, List, ◌++◌, Bool, true, false, not, ◌&&◌, take, Float}
+use Rattle.std.specs.Prelude.{◌≡◌, List, ◌++◌, Bool, true, false, not, ◌&&◌, take, Float, Result, Ok, Err, ⊤}
 use Rattle.std.proofs.Math.Path.{refl, ap, subst}
 use Rattle.std.proofs.Common.{sym, ◌∙◌}
 use Rattle.std.proofs.Math.ListN.{drop}
 use Rattle.std.specs.Float.Ieee.{is_nan}
 use Rattle.loops.specs.laws.ChoiceLaws.{through}
-use Rattle.rules.specs.Types.{Awaited, Reply, Answer, Progress, Run, Turn}
+use Rattle.rules.specs.Types.{Awaited, Reply, Answer, Progress, Run, Turn, Refusal}
 use Rattle.rules.specs.Types.{FirstDerivative, FirstJacobian, StartDerivative, StartNotice, ModifiedStartDerivative, ModifiedStartJacobian, NewtonDerivative, FailedJacobian, StepNotice, ModifiedStepDerivative, ModifiedStepJacobian, OrderJacobian, Ended}
 use Rattle.rules.specs.State.{turn, After, after}
 use Rattle.rules.specs.Places.{need}
@@ -24,19 +24,17 @@ use Rattle.rules.specs.laws.Agree.{Alike, Agree}
 use Rattle.rules.proofs.laws.AgreeLaws.{go_on_agrees}
 use Rattle.rules.proofs.laws.BlindLaws.{Quiet, replied_blind}
 use Rattle.rules.proofs.promises.RefusalLaws.{passed_answers}
-use Rattle.rules.specs.declared.stages.Check.{Check}
-use Rattle.rules.specs.declared.stages.Check.TheVariants.{Refuse, Passed}
 
 -- ---- beginning
 
 module _ (b : Bool) (c : Configuration) where
   -- what is kept of the settings but the guard, and what they are checked for, is the same
   begin_turn_blind :
-      (k : Check) (ws q : List Float) →
+      (k : Result ⊤ Refusal) (ws q : List Float) →
       beginning_turn (guarded_as false c) k ws q ≡ call_beside (guard_set_to false) (beginning_turn (guarded_as b c) k ws q)
   unfolding begin_run ask_first kept span_of call_beside
-  begin_turn_blind (Refuse why) ws q = refl
-  begin_turn_blind Passed ws q = refl
+  begin_turn_blind (Err why) ws q = refl
+  begin_turn_blind (Ok tt) ws q = refl
 
   -- a beginning that is refused, or that has nothing to do: its state has the guard off
   nothing_blind : (a : Answer) (ws q : List Float) → after (turn a Ended nothing) ws q ≡ call_beside (guard_set_to false) (after (turn a Ended nothing) ws q)
@@ -72,11 +70,11 @@ quiet_by Ended p values ws e = tt
 
 module _ (run : Run) (call : Call) where
   -- past the checks it is not refused
-  pub passed_is_taken : going_on_checked run call ≡ Passed → is_refused (called run call).answer ≡ false
+  pub passed_is_taken : going_on_checked run call ≡ Ok tt → is_refused (called run call).answer ≡ false
   unfolding go_on_of
-  passed_is_taken e = subst (λ (k : Check). is_refused (going_on_turn run call k).is.answer ≡ false) (sym e) (passed_answers run call e)
+  passed_is_taken e = subst (λ (k : Result ⊤ Refusal). is_refused (going_on_turn run call k).is.answer ≡ false) (sym e) (passed_answers run call e)
 
-  pub quiet : meets_nan run call ≡ false → going_on_checked run call ≡ Passed → Quiet run.awaited run.at call.values (take (need run.at.n) call.ws)
+  pub quiet : meets_nan run call ≡ false → going_on_checked run call ≡ Ok tt → Quiet run.awaited run.at call.values (take (need run.at.n) call.ws)
   unfolding meets_nan
   quiet e passed = quiet_by run.awaited run.at _ _ (rw (passed_is_taken passed) at e)
 
@@ -86,11 +84,11 @@ module _ (u : Unread) (run : Run) (call : Call) where
   checks_blind = refl
 
   turn_blind :
-      (k : Check) → (k ≡ Passed → Quiet run.awaited run.at call.values (take (need run.at.n) call.ws)) →
+      (k : Result ⊤ Refusal) → (k ≡ Ok tt → Quiet run.awaited run.at call.values (take (need run.at.n) call.ws)) →
       going_on_turn (run_beside u run) call k ≡ call_beside u (going_on_turn run call k)
   unfolding go_within call_beside
-  turn_blind (Refuse why) still = refl
-  turn_blind Passed still =
+  turn_blind (Err why) still = refl
+  turn_blind (Ok tt) still =
       ap (λ (g : After Turn). after g.is (g.ws ++ drop (need run.at.n) call.ws) g.q)
       (replied_blind u run.awaited run.at call.reply call.values _ call.q (still refl))
 
@@ -100,14 +98,14 @@ module _ (u : Unread) (run : Run) (call : Call) where
 
 -- ---- whether a call meets a NaN
 
-abbrev refuses : Check → Bool
-refuses (Refuse why) = true
-refuses Passed = false
+abbrev refuses : Result ⊤ Refusal → Bool
+refuses (Err why) = true
+refuses (Ok tt) = false
 
-refused_by : (run : Run) (call : Call) (k : Check) → going_on_checked run call ≡ k → is_refused (called run call).answer ≡ refuses k
+refused_by : (run : Run) (call : Call) (k : Result ⊤ Refusal) → going_on_checked run call ≡ k → is_refused (called run call).answer ≡ refuses k
 unfolding go_on_of
-refused_by run call (Refuse why) e = ap (λ (k : Check). is_refused (going_on_turn run call k).is.answer) e
-refused_by run call Passed e = passed_is_taken run call e
+refused_by run call (Err why) e = ap (λ (k : Result ⊤ Refusal). is_refused (going_on_turn run call k).is.answer) e
+refused_by run call (Ok tt) e = passed_is_taken run call e
 
 -- does not turn on the guard
 meets_blind : (u : Unread) (run : Run) (call : Call) → meets_nan (run_beside u run) call ≡ meets_nan run call

@@ -1,5 +1,5 @@
 -- What holds of a history whatever it is: the kinds of its answers, and when the automatic start's derivative was asked.
-use Rattle.std.specs.Prelude.{◌≡◌, refl, List, [], ◌∷◌, true, false, ℕ, ◌+◌, ◌-◌, ◌≤◌, ltb, length}
+use Rattle.std.specs.Prelude.{◌≡◌, refl, List, [], ◌∷◌, true, false, ℕ, ◌+◌, ◌-◌, ◌≤◌, ltb, length, is_none}
 use Rattle.std.proofs.Common.{true≢false, arith}
 use borrow.Author.Tests.{lt-ltb, le-ltb}
 use Rattle.loops.specs.Choice.{when◌then◌else◌}
@@ -7,7 +7,7 @@ use Rattle.loops.specs.laws.ChoiceLaws.{either, when_true, when_false, and_fails
 use Rattle.rules.specs.Types.{Answer, Run, Derivative, Jacobian, Start, Step, End, Refused}
 use Rattle.rules.specs.Answers.{is_end, is_refused}
 use Rattle.rules.specs.Calls.{Configuration}
-use Rattle.rules.specs.History.{Exchange, begins, goes_on, is_refused_call, derivatives, jacobians, start_notices, step_notices, questions_and_notices, is_unset, automatic_start}
+use Rattle.rules.specs.History.{Exchange, begins, goes_on, is_refused_call, derivatives, jacobians, start_notices, step_notices, questions_and_notices, automatic_start}
 
 -- ---- the kinds
 
@@ -50,13 +50,13 @@ module _ (c : Configuration) where
   pub automatic_early : (h : List Answer) → length h ≤ 2 → automatic_start c h ≡ 0
   unfolding automatic_start
   automatic_early h few =
-      when_false 1 0 (and_fails (is_unset c.settings.first_step) (λ _. and_fails (ltb 0 (length c.y0)) (λ _. le-ltb 2 (length h) few)))
+      when_false 1 0 (and_fails (is_none c.settings.first_step) (λ _. and_fails (ltb 0 (length c.y0)) (λ _. le-ltb 2 (length h) few)))
 
-  pub automatic_given : (h : List Answer) → is_unset c.settings.first_step ≡ false → automatic_start c h ≡ 0
+  pub automatic_given : (h : List Answer) → is_none c.settings.first_step ≡ false → automatic_start c h ≡ 0
   unfolding automatic_start when◌then◌else◌
   automatic_given h given = rw given
 
-  pub automatic_asked : (h : List Answer) → is_unset c.settings.first_step ≡ true → 1 ≤ length c.y0 → 3 ≤ length h → automatic_start c h ≡ 1
+  pub automatic_asked : (h : List Answer) → is_none c.settings.first_step ≡ true → 1 ≤ length c.y0 → 3 ≤ length h → automatic_start c h ≡ 1
   unfolding automatic_start
   automatic_asked h unset some far =
       when_true 1 0 (and_passes unset (and_passes (lt-ltb 0 (length c.y0) some) (lt-ltb 2 (length h) (omega arith))))

@@ -1,7 +1,7 @@
 -- Over whole exchanges, by induction over the calls: the state's x is the one that the caller knows, and so is the workspace's y
 -- where the caller left it alone; and the last answer has its reason. Each call leads there (`EndLaws`), a refused call changes
 -- nothing, and a beginning puts x0 and y0.
-use Rattle.std.specs.Prelude.{◌≡◌, refl, List, [], ◌∷◌, ◌++◌, true, false, ◌⊎◌, ℕ, ◌+◌, ◌≤◌, drop, Float}
+use Rattle.std.specs.Prelude.{◌≡◌, refl, List, [], ◌∷◌, ◌++◌, true, false, ◌⊎◌, ℕ, ◌+◌, ◌≤◌, drop, Float, Ok}
 use Rattle.std.proofs.Common.{sym, ◌∙◌, subst, true≢false, inl, inr, arith, length-take, length-drop, take-append-drop, take_all}
 use Rattle.std.proofs.Math.Path.{ap}
 use Rattle.std.proofs.lemmas.Bool.{false≢true}
@@ -35,7 +35,6 @@ use Rattle.rules.proofs.laws.ToldLaws.{loaded_is}
 use Rattle.rules.specs.laws.Leading.{Holds, Meets, Because, Leads}
 use Rattle.rules.proofs.laws.EndLaws.{replied_means}
 use Rattle.rules.proofs.promises.RefusalLaws.{refused_call}
-use Rattle.rules.specs.declared.stages.Check.TheVariants.{Passed}
 
 -- ---- y among the needed places
 
@@ -69,7 +68,7 @@ leads_beyond t rest long l =
 -- ---- a call
 
 -- past the checks a run has not ended
-passed_going : (run : Run) (call : Call) → going_on_checked run call ≡ Passed → is_ended run.awaited ≡ false
+passed_going : (run : Run) (call : Call) → going_on_checked run call ≡ Ok tt → is_ended run.awaited ≡ false
 unfolding go_checked
 passed_going run call e = passed_test (is_ended run.awaited) _ _ (passed_rest (damaged run.awaited run.at) _ _ e)
 
@@ -81,7 +80,7 @@ module _ (run : Run) (call : Call) (x : Float) (v : List Float) where
   abbrev Answered : After Turn → Type 0
   Answered t = Leads (call.reply ≡ Interrupt) (given_x call.reply x) (given_y n call.reply call.values v) t
 
-  passed_means : Holds x v run.at (take (need n) call.ws) → going_on_checked run call ≡ Passed → Answered (going_on_passed run call)
+  passed_means : Holds x v run.at (take (need n) call.ws) → going_on_checked run call ≡ Ok tt → Answered (going_on_passed run call)
   unfolding go_within
   passed_means h e =
       let good = handed run.awaited run.at call.reply call.values call.ws call.q e in
@@ -130,7 +129,7 @@ begun_shows c ws long =
     (tolerances_keep begins c.rtol c.rtols (row n rtol) _ (omega arith) loads)
 
 module _ (c : Configuration) where
-  passed_begun : (ws q : List Float) → beginning_checked c ws q ≡ Passed → let g = beginning_passed c ws q in Holds c.x0 c.y0 g.is.run.at g.ws
+  passed_begun : (ws q : List Float) → beginning_checked c ws q ≡ Ok tt → let g = beginning_passed c ws q in Holds c.x0 c.y0 g.is.run.at g.ws
   unfolding begin_run ask_first kept
   passed_begun ws q e =
       let n = length c.y0 in

@@ -1,6 +1,6 @@
 -- What becomes of an attempt whose error norm is NaN, and of the others where the guard is off. NaN is not above 1, so only the guard
 -- rejects it; a norm above 1 is no NaN, so it never gets the guard's factor.
-use Rattle.std.specs.Prelude.{◌≡◌, List, Bool, true, false, not, ◌||◌, ℕ, ◌+◌, take, Float}
+use Rattle.std.specs.Prelude.{◌≡◌, List, Bool, true, false, not, ◌||◌, ℕ, ◌+◌, take, Float, Result, Ok, Err, ⊤}
 use Rattle.std.proofs.Math.Path.{refl, ap}
 use Rattle.std.proofs.Common.{sym, ◌∙◌, true≢false}
 use Rattle.std.proofs.lemmas.Bool.{false≢true}
@@ -11,7 +11,7 @@ use Rattle.loops.specs.laws.ChoiceLaws.{through, when_true, when_false, and_firs
 use Rattle.loops.specs.Arithmetic.{◌⊗◌, one}
 use Rattle.number.specs.Helpers.{max_of}
 use Rattle.roots.specs.Roots.{inverse_root}
-use Rattle.rules.specs.Types.{Progress, Awaited, Run, FirstDerivative, FirstJacobian, StartDerivative, StartNotice, ModifiedStartDerivative, ModifiedStartJacobian, NewtonDerivative, FailedJacobian, StepNotice, ModifiedStepDerivative, ModifiedStepJacobian, OrderJacobian, Ended}
+use Rattle.rules.specs.Types.{Progress, Awaited, Run, FirstDerivative, FirstJacobian, StartDerivative, StartNotice, ModifiedStartDerivative, ModifiedStartJacobian, NewtonDerivative, FailedJacobian, StepNotice, ModifiedStepDerivative, ModifiedStepJacobian, OrderJacobian, Ended, Refusal}
 use Rattle.rules.specs.Literals.{min_factor, half}
 use Rattle.rules.specs.Places.{need}
 use Rattle.rules.specs.State.{ode+1, After}
@@ -24,8 +24,6 @@ use Rattle.rules.specs.GoOn.{go_within, go_on_of}
 use Rattle.rules.specs.Calls.{Call, going_on_checked, going_on_turn}
 use Rattle.rules.specs.History.{called}
 use Rattle.rules.specs.Guarding.{judged_norm, safety_at, rejected_by, rejected_after, is_judged, error_norm, meets_nan}
-use Rattle.rules.specs.declared.stages.Check.{Check}
-use Rattle.rules.specs.declared.stages.Check.TheVariants.{Refuse, Passed}
 
 -- ---- the error's test
 
@@ -140,15 +138,15 @@ module _ (run : Run) (call : Call) where
   abbrev room : List Float
   room = take (need run.at.n) call.ws
 
-  taken_passed : (k : Check) → going_on_checked run call ≡ k → is_refused (called run call).answer ≡ false → going_on_checked run call ≡ Passed
+  taken_passed : (k : Result ⊤ Refusal) → going_on_checked run call ≡ k → is_refused (called run call).answer ≡ false → going_on_checked run call ≡ Ok tt
   unfolding go_on_of
-  taken_passed (Refuse why) e t =
-      absurd (true≢false (sym (ap (λ (k : Check). is_refused (going_on_turn run call k).is.answer) e) ∙ t))
-  taken_passed Passed e t = e
+  taken_passed (Err why) e t =
+      absurd (true≢false (sym (ap (λ (k : Result ⊤ Refusal). is_refused (going_on_turn run call k).is.answer) e) ∙ t))
+  taken_passed (Ok tt) e t = e
 
   -- what a call that meets a NaN is: past the checks, a Newton derivative's reply, with which Newton has converged
   pub record Met : Type 0 where
-    pub passed : going_on_checked run call ≡ Passed
+    pub passed : going_on_checked run call ≡ Ok tt
     pub waits : run.awaited ≡ NewtonDerivative
     pub ends_here : is_judged run.at call.values room ≡ true
     pub no_number : is_nan (error_norm run.at call.values room) ≡ true
@@ -169,5 +167,5 @@ module _ (run : Run) (call : Call) where
   pub met_tells : Met → called run call ≡ (newton_turn run.at call.values room call.q).is
   unfolding go_on_of go_within
   met_tells m =
-      ap (λ (k : Check). (going_on_turn run call k).is) m.passed
+      ap (λ (k : Result ⊤ Refusal). (going_on_turn run call k).is) m.passed
       ∙ ap (λ (w : Awaited). (replied w run.at call.reply call.values room call.q).is) m.waits

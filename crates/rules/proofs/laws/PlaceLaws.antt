@@ -1,11 +1,11 @@
 -- Every reply keeps how the counters stand: place by place, read off the definition, whatever the floats are.
-use Rattle.std.specs.Prelude.{◌≡◌, List, ◌∷◌, Bool, ℕ, ◌+◌, ◌-◌, ◌≤◌, ◌<◌, length, Float}
+use Rattle.std.specs.Prelude.{◌≡◌, List, ◌∷◌, Bool, ℕ, ◌+◌, ◌-◌, ◌≤◌, ◌<◌, length, Float, Option, Some, None}
 use Rattle.std.proofs.Math.Path.{refl}
 use Rattle.std.proofs.Math.Bool.{false}
 use Rattle.std.proofs.lemmas.Bool.{false≢true}
 use Rattle.std.proofs.Common.{arith, leb-false, ltb-true}
 use Rattle.loops.specs.laws.ChoiceLaws.{either}
-use Rattle.rules.specs.Types.{Progress, Awaited, Answer, Turn, Reply, Setting, Unset, Given, Values, Continue, Interrupt, Modified, Derivative, Jacobian, Start, FirstDerivative, FirstJacobian, StartDerivative, StartNotice, ModifiedStartDerivative, ModifiedStartJacobian, NewtonDerivative, FailedJacobian, StepNotice, ModifiedStepDerivative, ModifiedStepJacobian, OrderJacobian, Ended}
+use Rattle.rules.specs.Types.{Progress, Awaited, Answer, Turn, Reply, Values, Continue, Interrupt, Modified, Derivative, Jacobian, Start, FirstDerivative, FirstJacobian, StartDerivative, StartNotice, ModifiedStartDerivative, ModifiedStartJacobian, NewtonDerivative, FailedJacobian, StepNotice, ModifiedStepDerivative, ModifiedStepJacobian, OrderJacobian, Ended}
 use Rattle.rules.specs.State.{ode+1, jac+1, After}
 use Rattle.rules.specs.Newton.{too_slow, gave_up}
 use Rattle.rules.proofs.laws.OrderLaws.{choice_within}
@@ -37,7 +37,7 @@ module _ (c : Configuration) where
 
     -- the first Jacobian's reply: with a step that is given the start is told, else its derivative is asked, and `start` shows it
     start_asked_lem :
-        {x : Float} {r : Progress} → Stays p r → Unset ≡ c.settings.first_step → 1 ≤ length c.y0 → 3 - length h ≡ 1 →
+        {x : Float} {r : Progress} → Stays p r → None ≡ c.settings.first_step → 1 ≤ length c.y0 → 3 - length h ≡ 1 →
         (automatic_start c (Derivative x ∷ h) ≡ 1 → Stands c (here r StartDerivative) r (Derivative x ∷ h)) →
         Next c p h (Derivative x) StartDerivative r
     start_asked_lem {x} s same some third i =
@@ -45,13 +45,13 @@ module _ (c : Configuration) where
         record { stays = s; stands = i asked; tells = record { ended = refl; quiet = λ n. absurd (false≢true n) } }
 
     first_step_leads :
-        (s : Setting) (ws q : List Float) → s ≡ c.settings.first_step → 1 ≤ length c.y0 → Stands c (here p FirstJacobian) p h →
+        (s : Option Float) (ws q : List Float) → s ≡ c.settings.first_step → 1 ≤ length c.y0 → Stands c (here p FirstJacobian) p h →
         Leads p h (first_step (jac+1 p) s ws q)
     unfolding first_step hinit_asks started
-    first_step_leads Unset ws q same some i =
+    first_step_leads None ws q same some i =
         let none = automatic_early c h (omega arith) in
         start_asked_lem (stays_with p) same some i.coming (λ asked. omega arith)
-    first_step_leads (Given x) ws q same some i =
+    first_step_leads (Some x) ws q same some i =
         let none = automatic_early c h (omega arith) in
         let given = automatic_given c (Start p.x ∷ h) (rw (← same)) in
         record { stays = stays_with p; stands = omega arith; tells = record { ended = refl; quiet = λ _. refl } }

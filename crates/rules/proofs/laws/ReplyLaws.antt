@@ -1,5 +1,5 @@
 -- What a reply's stages leave to the next: a state that is still ready, and how many values a reply brought.
-use Rattle.std.specs.Prelude.{◌≡◌, refl, List, ℕ, ◌+◌, ◌≤◌, length, Float}
+use Rattle.std.specs.Prelude.{◌≡◌, refl, List, ℕ, ◌+◌, ◌≤◌, length, Float, Some}
 use Rattle.std.proofs.Common.{sym, arith}
 use Rattle.std.proofs.Math.Path.{ap}
 use Rattle.rules.specs.Types.{Progress, Pace, Reply, Awaited, Values, Continue, Interrupt, Modified}
@@ -13,7 +13,6 @@ use Rattle.rules.specs.Attempt.{halved, Tried, rejected}
 use Rattle.rules.specs.Step.{newton_replied}
 use Rattle.rules.proofs.laws.StepLaws.{reply_back}
 use Rattle.rules.specs.Reply.{jacobian_stored, outdated}
-use Rattle.rules.specs.declared.stages.Wants.TheVariants.{Count}
 
 -- ---- a state that moved within an attempt is ready, where the slices kept their lengths
 
@@ -71,7 +70,7 @@ module _ {p : Progress} {ws q : List Float} (i : Ready p ws q) where
 
 -- ---- what a reply brings: the values that a question asked, or those of a modification
 
-asked_for : (k count : ℕ) (r : Reply) → values_want k r ≡ Count count → k ≡ count
+asked_for : (k count : ℕ) (r : Reply) → values_want k r ≡ Some count → k ≡ count
 asked_for k count Values e = cc
 asked_for k count Continue e = cc
 asked_for k count Interrupt e = cc

@@ -2,10 +2,10 @@
 -- and so is what was written over the slice's first places. And no stage answers with a refusal, and the state that it leaves waits
 -- for what its answer asks for. (How the counters go through the same stages is in PlaceLaws.antt: it asks how they stand before,
 -- and this asks nothing of a state.)
-use Rattle.std.specs.Prelude.{◌≡◌, List, [], ◌∷◌, ℕ, zero, suc, ◌*◌, length, Float}
+use Rattle.std.specs.Prelude.{◌≡◌, List, [], ◌∷◌, ℕ, zero, suc, ◌*◌, length, Float, Option, Some, None}
 use Rattle.std.proofs.Math.Path.{refl}
 use Rattle.std.proofs.Common.{ap, subst, arith}
-use Rattle.rules.specs.Types.{Progress, Turn, Awaited, Reply, Tolerance, Setting, Unset, Given, Values, Continue, Interrupt, Modified}
+use Rattle.rules.specs.Types.{Progress, Turn, Awaited, Reply, Tolerance, Values, Continue, Interrupt, Modified, Pace, Aim}
 use Rattle.rules.specs.Types.{FirstDerivative, FirstJacobian, StartDerivative, StartNotice, ModifiedStartDerivative, ModifiedStartJacobian, NewtonDerivative, FailedJacobian, StepNotice, ModifiedStepDerivative, ModifiedStepJacobian, OrderJacobian, Ended}
 use Rattle.rules.specs.Places.{need, y, y1, y_new, y_predict}
 use Rattle.rules.specs.State.{After}
@@ -20,8 +20,6 @@ use Rattle.rules.proofs.laws.LengthLaws.{exact, copied_long, filled_long, loaded
 use Rattle.rules.proofs.laws.QuestionLaws.{fronted, Speaks, Says, SaysTried, speaks_alike, speaks_nothing, speaks_either, speaks_told, speaks_notice}
 use Rattle.rules.specs.declared.settings.BDF.{BDF}
 use Rattle.rules.specs.declared.stages.Choice.{Choice}
-use Rattle.rules.specs.declared.stages.Aimed.{Aimed}
-use Rattle.rules.specs.declared.stages.Aimed.TheVariants.{At, AtEnd}
 
 -- what a stage from the state p does with a workspace of just the needed places
 abbrev Attempts : Progress → (List Float → After Tried) → Type 0
@@ -59,9 +57,9 @@ unfolding unless_stuck
 unless_stuck_speaks p ws h =
     speaks_either _ (λ _. speaks_nothing _ ws h (refl, refl, refl, refl)) (λ _. attempt_at_speaks _ ws h)
 
-headed_speaks : (p : Progress) (a : Aimed) (ws : List Float) → Exact p ws → Attempts p (headed p a ws)
-headed_speaks p AtEnd ws h = speaks_nothing _ ws h (refl, refl, refl, refl)
-headed_speaks p (At g a) ws h = unless_stuck_speaks _ ws h
+headed_speaks : (p : Progress) (a : Option (Pace × Aim)) (ws : List Float) → Exact p ws → Attempts p (headed p a ws)
+headed_speaks p None ws h = speaks_nothing _ ws h (refl, refl, refl, refl)
+headed_speaks p (Some (g, a)) ws h = unless_stuck_speaks _ ws h
 
 attempt_speaks : (p : Progress) (ws : List Float) → Exact p ws → Attempts p (attempt p ws)
 unfolding attempt fitted_attempt
@@ -148,10 +146,10 @@ hinit_asks_speaks : (p : Progress) (ws : List Float) → Exact p ws → Turns p 
 unfolding hinit_asks
 hinit_asks_speaks p ws h = speaks_told y1 _ _ (omega arith) (euler_keeps (exact p) _ ws h) (refl, refl, refl, λ r. refl)
 
-first_step_speaks : (p : Progress) (s : Setting) (ws : List Float) → Exact p ws → Turns p (first_step p s ws)
+first_step_speaks : (p : Progress) (s : Option Float) (ws : List Float) → Exact p ws → Turns p (first_step p s ws)
 unfolding first_step
-first_step_speaks p Unset ws h = hinit_asks_speaks p ws h
-first_step_speaks p (Given x) ws h = started_speaks p _ ws h
+first_step_speaks p None ws h = hinit_asks_speaks p ws h
+first_step_speaks p (Some x) ws h = started_speaks p _ ws h
 
 -- ---- the choice of order, and what follows a step
 

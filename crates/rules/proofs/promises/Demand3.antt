@@ -1,6 +1,6 @@
 -- Demand 3 of the tender, with 02 §6's `start`: 'Take an accepted configuration, any replies at all, each call handing back the state
 -- last returned; refused calls don't count.' That is an `Exchange` (History.antt). 'At every notice and at the end' the following holds.
-use Rattle.std.specs.Prelude.{◌≡◌, List, ◌∷◌, ℕ, ◌+◌, ◌*◌, ◌≤◌, max}
+use Rattle.std.specs.Prelude.{◌≡◌, List, ◌∷◌, ℕ, ◌+◌, ◌*◌, ◌≤◌}
 use Rattle.std.proofs.Common.{sym, ap, arith}
 use Rattle.rules.specs.Types.{Answer, Run}
 use Rattle.rules.specs.Answers.{NoticeOrEnd}

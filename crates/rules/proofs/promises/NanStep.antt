@@ -2,7 +2,7 @@
 -- first step of 1, one attempt allowed, tolerances 0 and 1e-6; the derivative is 0 at the start and 1e308 at the end. The new y
 -- overflows, so that its scale is 1e-6 + 0 · infinity, and the error norm is NaN. Unguarded the run tells y = infinity and ends in Success.
 -- Guarded the attempt is rejected, half of the step is left, and the run ends unfinished. So a NaN norm is met at all, and by which call.
-use Rattle.std.specs.Prelude.{◌≡◌, refl, Bool, true, false, List, [], ◌∷◌, ◌++◌, ℕ, pos, replicate, Float}
+use Rattle.std.specs.Prelude.{◌≡◌, refl, Bool, true, false, List, [], ◌∷◌, ◌++◌, ℕ, pos, replicate, Float, Some, None}
 use Rattle.std.specs.Float.{nan, inf, fin}
 use Rattle.std.specs.Float.Ieee.{is_nan, of_bits, of_int, add, sub, mul, div, neg, eq, ne, lt, le}
 use Rattle.loops.specs.Choice.{when◌then◌else◌}
@@ -26,7 +26,7 @@ use Rattle.rules.specs.Reply.{jacobian_stored, first_turn, first_difference, dif
 use Rattle.rules.specs.Checks.{negative, limited, tolerances_checked, checked}
 use Rattle.rules.specs.Begin.{span_of, kept, begin_ws, ask_first, begin_run, begin_of}
 use Rattle.rules.specs.GoOn.{pivot_outside, limits_damaged, steps_damaged, counters_damaged, damaged_above0, damaged, go_checked, go_within, go_on_of}
-use Rattle.rules.specs.Types.{Unset, Given, Scalar, Turn, Answer, Derivative, Step, End, Success, NeedLargerNMax, Values, Continue}
+use Rattle.rules.specs.Types.{Scalar, Turn, Answer, Derivative, Step, End, Success, NeedLargerNMax, Values, Continue}
 use Rattle.rules.specs.State.{After}
 use Rattle.rules.specs.Calls.{Configuration, Call, beginning}
 use Rattle.rules.specs.Guarding.{meets_nan}
@@ -49,11 +49,11 @@ overflowing guarded =
       settings =
           record {
             max_steps = 1;
-            max_step = Unset;
-            min_step = Unset;
+            max_step = None;
+            min_step = None;
             newton_maxiter = 4;
-            newton_tol = Unset;
-            first_step = Given one;
+            newton_tol = None;
+            first_step = Some one;
             guarded = guarded;
           };
       x0 = nought;

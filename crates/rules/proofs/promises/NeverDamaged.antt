@@ -1,11 +1,11 @@
 -- A state that a run returns is never damaged, one that has ended included. So a caller who replies in kind, with slices that
 -- are long enough, meets no refusal before the end; and after it number 10, whatever is handed over. What is in kind, the last
 -- answer says: the state waits for what it asks for.
-use Rattle.std.specs.Prelude.{◌≡◌, refl, List, ◌∷◌, true, ℕ, ◌*◌, ◌≤◌, length, Float}
+use Rattle.std.specs.Prelude.{◌≡◌, refl, List, ◌∷◌, true, ℕ, ◌*◌, ◌≤◌, length, Float, Some, None, Result, ⊤}
 use Rattle.std.proofs.Math.Path.{sym, subst}
 use Rattle.std.proofs.Common.{ap, ◌∙◌, arith}
 use Rattle.std.proofs.Math.Bool.{false}
-use Rattle.rules.specs.Types.{Answer, Derivative, Jacobian, Start, Step, End, Refused, Reply, Run, Turn, HasEnded, Ended}
+use Rattle.rules.specs.Types.{Answer, Derivative, Jacobian, Start, Step, End, Refused, Reply, Run, Turn, HasEnded, Ended, Refusal}
 use Rattle.rules.specs.Places.{need}
 use Rattle.rules.specs.State.{After, after}
 use Rattle.rules.specs.Replies.{is_ended, wants, asks_for, Awaits}
@@ -20,8 +20,6 @@ use Rattle.rules.proofs.promises.RefusalLaws.{passed_says, passed_answers, refus
 use Rattle.rules.specs.History.{begun, called, Exchange, begins, goes_on, is_refused_call}
 use Rattle.rules.proofs.laws.ExchangeLaws.{Kept, idle, works, exchange_kept}
 use Rattle.rules.proofs.laws.SoundLaws.{nothing_undamaged, kept_undamaged}
-use Rattle.rules.specs.declared.stages.Check.{Check}
-use Rattle.rules.specs.declared.stages.Wants.TheVariants.{Count, Unsuited}
 
 pub never_damaged : {c : Configuration} {run : Run} {h : List Answer} → Exchange c run h → damaged run.awaited run.at ≡ false
 never_damaged x = kept_undamaged (exchange_kept x)
@@ -63,19 +61,19 @@ asked_in_kind {a = a} (is_refused_call {run = run} x call e) =
 -- a call that replies in kind, with values enough and slices that are long enough
 pub record Suits (run : Run) (call : Call) : Type 0 where
   pub count : ℕ
-  pub kind : wants run.at.n run.awaited call.reply ≡ Count count
+  pub kind : wants run.at.n run.awaited call.reply ≡ Some count
   pub enough : count ≤ length call.values
   pub works : need run.at.n ≤ length call.ws
   pub asks : 8 * run.at.n ≤ length call.q
 
-unsuited : {k : ℕ} → Unsuited ≡ Count k → ⊥
+unsuited : {k : ℕ} → None ≡ Some k → ⊥
 unsuited e = let z : ◌≡◌ {A = ℕ} 0 1 = cc in absurd (omega arith)
 
 -- a call that replies in kind to an answer of a run of n components: to a question all the values that it asks for, to a notice
 -- continue, interrupt, or modified with a state
 pub record RepliesTo (n : ℕ) (a : Answer) (call : Call) : Type 0 where
   pub count : ℕ
-  pub kind : asks_for n a call.reply ≡ Count count
+  pub kind : asks_for n a call.reply ≡ Some count
   pub enough : count ≤ length call.values
 
 module _ {run : Run} {call : Call} (works : need run.at.n ≤ length call.ws) (asks : 8 * run.at.n ≤ length call.q) where
@@ -123,7 +121,7 @@ module _ {c : Configuration} {run : Run} {a : Answer} {h : List Answer} (x : Exc
   no_refusal before s =
       let going : is_ended run.awaited ≡ false = sym (ended_is_told x) ∙ before in
       let passes = suited_passes run.awaited run.at call.reply _ _ _ (never_damaged x) going s.kind s.works s.asks s.enough in
-      subst (λ (k : Check). is_refused (going_on_turn run call k).is.answer ≡ false) (sym passes)
+      subst (λ (k : Result ⊤ Refusal). is_refused (going_on_turn run call k).is.answer ≡ false) (sym passes)
       (passed_answers run call passes)
 
   -- a call that replies in kind to the answer told suits, and is not refused

@@ -3,7 +3,7 @@
 -- end that the definitions then compute are what that page prints, 02 §6's `start` among it. Beside it the same with one step allowed,
 -- whose last line it prints too; and, not printed there, with y' = 1 in place of y' = 0, where y moves, and with an automatic start as far as
 -- its notice. The job is unguarded, as all jobs are, and meets no error norm that is NaN.
-use Rattle.std.specs.Prelude.{◌≡◌, refl, false, List, [], ◌∷◌, ℕ, pos, negsuc, replicate, Float}
+use Rattle.std.specs.Prelude.{◌≡◌, refl, false, List, [], ◌∷◌, ℕ, pos, negsuc, replicate, Float, Option, Some, None}
 use Rattle.std.specs.Float.{nan, fin}
 use Rattle.std.specs.Float.Ieee.{is_nan, of_bits, of_int, add, sub, mul, div, neg, eq, ne, lt, le}
 use Rattle.loops.specs.Choice.{when◌then◌else◌}
@@ -28,7 +28,7 @@ use Rattle.rules.specs.Reply.{jacobian_stored, first_turn, first_difference, dif
 use Rattle.rules.specs.Checks.{negative, limited, tolerances_checked, checked}
 use Rattle.rules.specs.Begin.{span_of, kept, begin_ws, ask_first, begin_run, begin_of}
 use Rattle.rules.specs.GoOn.{pivot_outside, limits_damaged, steps_damaged, counters_damaged, damaged_above0, damaged, go_checked, go_within, go_on_of}
-use Rattle.rules.specs.Types.{Setting, Unset, Given, Scalar, Answer, Turn, Derivative, Jacobian, Start, Step, End, Success, NeedLargerNMax, Values, Continue}
+use Rattle.rules.specs.Types.{Scalar, Answer, Turn, Derivative, Jacobian, Start, Step, End, Success, NeedLargerNMax, Values, Continue}
 use Rattle.rules.specs.State.{After}
 use Rattle.rules.specs.Calls.{Configuration, beginning}
 use Rattle.rules.specs.Guarding.{meets_nan}
@@ -51,16 +51,16 @@ abbrev pub two : Float
 two = fin false 1 (pos 1)
 
 -- with so many steps, and this first step
-abbrev job_with : ℕ → Setting → Configuration
+abbrev job_with : ℕ → Option Float → Configuration
 job_with steps first =
     record {
       settings =
           record {
             max_steps = steps;
-            max_step = Unset;
-            min_step = Unset;
+            max_step = None;
+            min_step = None;
             newton_maxiter = 4;
-            newton_tol = Unset;
+            newton_tol = None;
             first_step = first;
             guarded = false;
           };
@@ -74,10 +74,10 @@ job_with steps first =
     }
 
 abbrev pub job : ℕ → Configuration
-job steps = job_with steps (Given half)
+job steps = job_with steps (Some half)
 
 abbrev automatic_job : Configuration
-automatic_job = job_with 100000 Unset
+automatic_job = job_with 100000 None
 
 -- a transcript. The slices may hold anything before it: here NaN
 abbrev transcript_of : Solver → Configuration → List Replied → List Line

@@ -1,6 +1,6 @@
 -- A refusal changes nothing: whatever is handed over, forged states among it, a refused call leaves every lent slice as it was
 -- and hands back the state that it was given (a refused beginning: one that has ended). For past the checks nothing refuses.
-use Rattle.std.specs.Prelude.{◌≡◌, refl, List, true, false, take, Float}
+use Rattle.std.specs.Prelude.{◌≡◌, refl, List, true, false, take, Float, Ok}
 use Rattle.std.proofs.Common.{sym, ◌∙◌, true≢false}
 use Rattle.std.proofs.lemmas.Bool.{false≢true}
 use Rattle.std.proofs.Math.Seq.{length-take-le}
@@ -15,9 +15,8 @@ use Rattle.rules.specs.Calls.{Configuration, beginning, Call, going_on, going_on
 use Rattle.rules.proofs.laws.CallLaws.{beginning_cases, going_on_cases}
 use Rattle.rules.proofs.laws.QuestionLaws.{Says}
 use Rattle.rules.proofs.laws.SpeakLaws.{replied_speaks}
-use Rattle.rules.specs.declared.stages.Check.TheVariants.{Passed}
 
-module _ (run : Run) (call : Call) (e : going_on_checked run call ≡ Passed) where
+module _ (run : Run) (call : Call) (e : going_on_checked run call ≡ Ok tt) where
   -- past the checks a call says what its answer tells, and waits for what it asks for
   pub passed_says : let t = (going_on_passed run call).is in Says run.at.n t (written run.at.n t.answer)
   unfolding go_within

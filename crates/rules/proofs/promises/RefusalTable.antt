@@ -1,16 +1,16 @@
 -- The table of refusals of docs/RULES.md, row by row; and that the answer of a beginning and of going on, whole and whatever is handed
 -- over, is refused as the first row says that applies, with its number and its values, and not refused where none applies.
-use Rattle.std.specs.Prelude.{◌≡◌, List, [], ◌∷◌, ◌++◌, Bool, true, false, not, ◌&&◌, ◌||◌, ℕ, zero, suc, ◌+◌, ◌*◌, ◌≤◌, leb, eqb, Float}
+use Rattle.std.specs.Prelude.{◌≡◌, List, [], ◌∷◌, ◌++◌, Bool, true, false, not, ◌&&◌, ◌||◌, ℕ, zero, suc, ◌+◌, ◌*◌, ◌≤◌, leb, eqb, Float, Option, Some, None, Result, Ok, Err, ⊤}
 use Rattle.std.proofs.Math.Path.{refl}
 use Rattle.std.proofs.Common.{sym, ◌∙◌, true≢false, arith, leb-true, leb-false, lt-ltb, le-ltb}
-use Rattle.std.proofs.Math.Option.{Option, none, some, some-ne-none}
+use Rattle.std.proofs.Math.Option.{Option as Maybe, none, some, some-ne-none}
 use Rattle.std.proofs.Math.Dec.{ltb}
 use Rattle.std.proofs.Math.ListN.{length}
 use Rattle.std.specs.Float.Ieee
 use Rattle.loops.specs.Choice.{when◌then◌else◌}
 use Rattle.loops.specs.Arithmetic.{◌⊖◌, +0}
 use Rattle.number.specs.Helpers.{signum_of}
-use Rattle.rules.specs.Types.{Setting, Unset, Given, Tolerance, Scalar, Vector, Relative, Absolute, Answer, Derivative, Jacobian, Start, Step, End, Refused, Success, Ended, Run, Turn}
+use Rattle.rules.specs.Types.{Tolerance, Scalar, Vector, Relative, Absolute, Answer, Derivative, Jacobian, Start, Step, End, Refused, Success, Ended, Run, Turn, Refusal}
 use Rattle.rules.specs.Answers.{is_refused}
 use Rattle.rules.specs.Places.{need}
 use Rattle.rules.specs.State.{turn, After, after}
@@ -22,10 +22,6 @@ use Rattle.rules.specs.GoOn.{damaged, count_checked, go_checked, go_on_of}
 use Rattle.rules.specs.Calls.{Configuration, beginning, beginning_checked, beginning_turn, Call, going_on, going_on_checked, going_on_turn, going_on_passed}
 use Rattle.rules.proofs.laws.CallLaws.{beginning_cases}
 use Rattle.rules.proofs.promises.RefusalLaws.{passed_answers}
-use Rattle.rules.specs.declared.stages.Check.{Check}
-use Rattle.rules.specs.declared.stages.Check.TheVariants.{Refuse, Passed}
-use Rattle.rules.specs.declared.stages.Wants.{Wants}
-use Rattle.rules.specs.declared.stages.Wants.TheVariants.{Count, Unsuited}
 
 -- ---- a table, and how it is read
 
@@ -38,7 +34,7 @@ abbrev pub row : Bool → ℕ → Carried → Row
 row applies number carried = record { applies = applies; tells = (number, carried) }
 
 -- from the top down: the first row that applies, or nothing
-abbrev pub first_of : List Row → Option Told
+abbrev pub first_of : List Row → Maybe Told
 first_of [] = none
 first_of (r ∷ rows) = when r.applies then some r.tells else first_of rows
 
@@ -58,9 +54,9 @@ tolerance_rows r rs a als (suc left) i =
     tolerance_rows r rs a als left (i + 1)
 
 -- 8: a given `first_step` is +0 or -0; an unset one has no row
-abbrev pub first_step_rows : Setting → Float → List Row
-first_step_rows Unset direction = []
-first_step_rows (Given h) direction = row (Ieee.eq h +0) 8 (first_step h direction) ∷ []
+abbrev pub first_step_rows : Option Float → Float → List Row
+first_step_rows None direction = []
+first_step_rows (Some h) direction = row (Ieee.eq h +0) 8 (first_step h direction) ∷ []
 
 -- 6 to 8
 abbrev pub limit_rows : Configuration → List Row
@@ -86,14 +82,14 @@ begin_table c room questions =
 -- ---- 9 to 12, at going on
 
 -- 11: the reply's kind does not suit the question
-abbrev pub unsuited : Wants → Bool
-unsuited Unsuited = true
-unsuited (Count k) = false
+abbrev pub unsuited : Option ℕ → Bool
+unsuited None = true
+unsuited (Some k) = false
 
 -- 12: how long the reply slice must be
-abbrev pub wanted : Wants → ℕ
-wanted Unsuited = 0
-wanted (Count k) = k
+abbrev pub wanted : Option ℕ → ℕ
+wanted None = 0
+wanted (Some k) = k
 
 -- the whole: of workspace, question slice and reply slice the lengths count
 abbrev pub go_table : Run → Call → List Row
@@ -108,13 +104,13 @@ go_table run call =
 -- ---- the checks go by the table
 
 -- what a check tells
-abbrev tells : Check → Option Told
-tells Passed = none
-tells (Refuse why) = some (told why)
+abbrev tells : Result ⊤ Refusal → Maybe Told
+tells (Ok tt) = none
+tells (Err why) = some (told why)
 
 -- a choice tells what the way tells that it takes
 choice_tells :
-    {A : Type 0} (says : A → Option Told) (b : Bool) (x y : A) {m n : Option Told} → says x ≡ m → says y ≡ n →
+    {A : Type 0} (says : A → Maybe Told) (b : Bool) (x y : A) {m n : Maybe Told} → says x ≡ m → says y ≡ n →
     says (when b then x else y) ≡ (when b then m else n)
 unfolding when◌then◌else◌
 choice_tells says true x y p q = p
@@ -122,7 +118,7 @@ choice_tells says false x y p q = q
 
 -- two conditions that must hold both are a row that applies where one fails
 condition_tells :
-    (b c : Bool) (x y : Check) {m n : Option Told} → tells x ≡ m → tells y ≡ n →
+    (b c : Bool) (x y : Result ⊤ Refusal) {m n : Maybe Told} → tells x ≡ m → tells y ≡ n →
     tells (when b && c then x else y) ≡ (when (not b || not c) then n else m)
 unfolding when◌then◌else◌
 condition_tells true true x y p q = p
@@ -138,7 +134,7 @@ too_few_is_short Vector values n = by_test (leb n (length values)) refl
     by_test false e = sym (lt-ltb (length values) n (leb-false n (length values) e))
 
 tolerances_tell :
-    (r : Tolerance) (rs : List Float) (a : Tolerance) (als : List Float) (left i : ℕ) (later : Check) (rows : List Row) →
+    (r : Tolerance) (rs : List Float) (a : Tolerance) (als : List Float) (left i : ℕ) (later : Result ⊤ Refusal) (rows : List Row) →
     tells later ≡ first_of rows →
     tells (or_else (negative r rs a als left i) later) ≡ first_of (tolerance_rows r rs a als left i ++ rows)
 unfolding negative tolerance_rows
@@ -147,12 +143,12 @@ tolerances_tell r rs a als (suc left) i later rows p =
     choice_tells says (Ieee.lt (entry r rs i) +0) _ _ refl
     (choice_tells says (Ieee.lt (entry a als i) +0) _ _ refl (tolerances_tell r rs a als left (i + 1) later rows p))
   where
-    says : Check → Option Told
+    says : Result ⊤ Refusal → Maybe Told
     says k = tells (or_else k later)
 
-first_step_tells : (first : Setting) (direction : Float) → tells (zero_step first direction) ≡ first_of (first_step_rows first direction)
-first_step_tells Unset direction = refl
-first_step_tells (Given h) direction = choice_tells tells (Ieee.eq h +0) _ _ refl refl
+first_step_tells : (first : Option Float) (direction : Float) → tells (zero_step first direction) ≡ first_of (first_step_rows first direction)
+first_step_tells None direction = refl
+first_step_tells (Some h) direction = choice_tells tells (Ieee.eq h +0) _ _ refl refl
 
 module _ (c : Configuration) (ws q : List Float) where
   limits_tell : tells (limited c.settings (signum_of (c.xend ⊖ c.x0))) ≡ first_of (limit_rows c)
@@ -173,19 +169,19 @@ module _ (c : Configuration) (ws q : List Float) where
       (tolerances_tell c.rtol c.rtols c.atol c.atols n 0 _ (limit_rows c) limits_tell) refl)))
 
 reply_tells :
-    (v : Wants) (n values room questions : ℕ) →
+    (v : Option ℕ) (n values room questions : ℕ) →
     tells (count_checked v n values room questions) ≡
     (when unsuited v then some (11, bare)
     else when (ltb room (need n) || (ltb questions (8 * n) || ltb values (wanted v))) then some (12, bare)
     else none)
 unfolding when◌then◌else◌
-reply_tells Unsuited n values room questions = refl
-reply_tells (Count k) n values room questions = choice_tells tells (ltb room (need n) || (ltb questions (8 * n) || ltb values k)) _ _ refl refl
+reply_tells None n values room questions = refl
+reply_tells (Some k) n values room questions = choice_tells tells (ltb room (need n) || (ltb questions (8 * n) || ltb values k)) _ _ refl refl
 
 -- ---- a beginning
 
 -- what an outcome tells of refusing
-abbrev pub refusal : After Turn → Option Told
+abbrev pub refusal : After Turn → Maybe Told
 refusal g = refusal_of g.is.answer
 
 -- rows that do not count where a test passes
@@ -195,10 +191,10 @@ unfolding when◌then◌else◌
 rows_chosen true x y rows p q = p
 rows_chosen false x y rows p q = q
 
-begin_tells : (c : Configuration) (k : Check) (ws q : List Float) → refusal (beginning_turn c k ws q) ≡ tells k
+begin_tells : (c : Configuration) (k : Result ⊤ Refusal) (ws q : List Float) → refusal (beginning_turn c k ws q) ≡ tells k
 unfolding begin_run ask_first
-begin_tells c Passed ws q = refl
-begin_tells c (Refuse why) ws q = refl
+begin_tells c (Ok tt) ws q = refl
+begin_tells c (Err why) ws q = refl
 
 pub beginning_is_refused_by_the_table :
     (c : Configuration) (ws q : List Float) → refusal_of (beginning c ws q).is.answer ≡ first_of (begin_table c (length ws) (length q))
@@ -236,9 +232,9 @@ no_refusal_tells_nothing (Step old new start h) e = refl
 no_refusal_tells_nothing (End status h) e = refl
 no_refusal_tells_nothing (Refused why) e = absurd (true≢false e)
 
-go_tells : (run : Run) (call : Call) (k : Check) → going_on_checked run call ≡ k → refusal (going_on_turn run call k) ≡ tells k
-go_tells run call Passed e = no_refusal_tells_nothing (going_on_passed run call).is.answer (passed_answers run call e)
-go_tells run call (Refuse why) e = refl
+go_tells : (run : Run) (call : Call) (k : Result ⊤ Refusal) → going_on_checked run call ≡ k → refusal (going_on_turn run call k) ≡ tells k
+go_tells run call (Ok tt) e = no_refusal_tells_nothing (going_on_passed run call).is.answer (passed_answers run call e)
+go_tells run call (Err why) e = refl
 
 go_checks_tell : (run : Run) (call : Call) → tells (going_on_checked run call) ≡ first_of (go_table run call)
 unfolding go_checked

@@ -1,12 +1,11 @@
 -- What the private functions ask of their callers: room in the slices, and a state whose numbers are small enough that no
 -- counter can wrap. Numbers only: nothing is asked of a float.
-use Rattle.std.specs.Prelude.{List, ℕ, ◌+◌, ◌*◌, ◌^◌, ◌≤◌, ◌<◌, length, take, Float, true, ◌≡◌}
+use Rattle.std.specs.Prelude.{List, ℕ, ◌+◌, ◌*◌, ◌^◌, ◌≤◌, ◌<◌, length, take, Float, true, ◌≡◌, Some}
 use Rattle.rules.specs.Types.{Progress}
 use Rattle.rules.specs.Types.{Awaited, Reply}
 use Rattle.matrix.specs.Size.{max_n}
 use Rattle.rules.specs.Places.{need}
 use Rattle.rules.specs.Replies.{awaits_newton, word_wants, wants}
-use Rattle.rules.specs.declared.stages.Wants.TheVariants.{Count}
 
 -- a workspace of the needed length for n components, 1 to 32 of them
 pub record Room (n : ℕ) (ws : List Float) : Type 0 where
@@ -49,13 +48,13 @@ pub record Judging (p : Progress) : Type 0 where
 -- a notice's reply brings the values that it needs
 pub record Enough (p : Progress) (r : Reply) (values : List Float) : Type 0 where
   pub count : ℕ
-  pub suits : word_wants p.n r ≡ Count count
+  pub suits : word_wants p.n r ≡ Some count
   pub enough : count ≤ length values
 
 -- a reply that suits the place, with its values
 pub record Answered (w : Awaited) (p : Progress) (r : Reply) (values : List Float) : Type 0 where
   pub count : ℕ
-  pub suits : wants p.n w r ≡ Count count
+  pub suits : wants p.n w r ≡ Some count
   pub enough : count ≤ length values
   pub iterates : awaits_newton w ≡ true → p.newton.iters < p.limits.newton
 

@@ -14,5 +14,5 @@ text_within a l out p e = subst (λ (v : Paged). v.0.is.length ≤ length v.1) (
 pub slice_bounds-out-end : goal.slice_bounds-out-end
 slice_bounds-out-end c = text_within _ _ _ _ c.next_page-page.ensures
 
-pub slice_bounds-write_all-end : goal.slice_bounds-write_all-end
-slice_bounds-write_all-end c = sym (length-take-le _ _ (text_within _ _ _ _ c.next_page-page.ensures))
+pub slice_bounds-text-end : goal.slice_bounds-text-end
+slice_bounds-text-end c = sym (length-take-le _ _ (text_within _ _ _ _ c.next_page-page.ensures))

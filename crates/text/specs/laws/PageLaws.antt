@@ -1,10 +1,9 @@
 -- What holds of pages: text put after text is the two put at once, where there is room for both. So a line that is written
 -- field by field is the line.
-use Rattle.std.specs.Prelude.{◌≡◌, refl, List, ◌++◌, ℕ, ◌+◌, ◌≤◌, take, drop}
+use Rattle.std.specs.Prelude.{◌≡◌, refl, List, ◌++◌, ℕ, ◌+◌, ◌≤◌, take, drop, Some}
 use Rattle.std.proofs.Common.{sym, ap, ◌∙◌, append_assoc, arith, length-append, length-drop, take_at, drop_at, drop-drop, length-take-le, le-leb}
 use Rattle.std.proofs.Math.ListN.{length}
 use Rattle.loops.specs.laws.ChoiceLaws.{when_true}
-use Rattle.text.specs.declared.page.Place.TheVariants.{At}
 use Rattle.text.specs.Page.{puts}
 
 -- the bytes with t laid over them from `at` on
@@ -12,7 +11,7 @@ abbrev pub laid : List ℕ → ℕ → List ℕ → List ℕ
 laid t at out = take at out ++ (t ++ drop (at + length t) out)
 
 module _ (t : List ℕ) (at : ℕ) (out : List ℕ) (room : at + length t ≤ length out) where
-  pub puts_whole : puts t (At at, out) ≡ (At (at + length t), laid t at out)
+  pub puts_whole : puts t (Some at, out) ≡ (Some (at + length t), laid t at out)
   unfolding puts
   puts_whole = when_true _ _ (le-leb (at + length t) (length out) room)
 
@@ -33,7 +32,7 @@ module _ (t : List ℕ) (at : ℕ) (out : List ℕ) (room : at + length t ≤ le
       let e : length (take at out) ≡ at = length-take-le at out (omega arith) in
       simp (length-append, length-drop) (omega arith)
 
-pub puts_joined : (t u : List ℕ) (at : ℕ) (out : List ℕ) → at + length (t ++ u) ≤ length out → puts u (puts t (At at, out)) ≡ puts (t ++ u) (At at, out)
+pub puts_joined : (t u : List ℕ) (at : ℕ) (out : List ℕ) → at + length (t ++ u) ≤ length out → puts u (puts t (Some at, out)) ≡ puts (t ++ u) (Some at, out)
 puts_joined t u at out room =
     let e : length (t ++ u) ≡ length t + length u = length-append t u in
     let first : at + length t ≤ length out = omega arith in

@@ -1,23 +1,21 @@
 -- The contracts of this crate leave no choice: two outcomes that meet one of them, from the same call, are the same answer and the
 -- same bytes left on the page. Each `Meets..` is the equation that the code's contract states.
-use Rattle.std.specs.Prelude.{◌≡◌, Bool, List, [], ◌∷◌, ℕ, Float}
+use Rattle.std.specs.Prelude.{◌≡◌, Bool, List, [], ◌∷◌, ℕ, Float, Option}
 use Rattle.std.proofs.Common.{sym, ap, ◌∙◌}
 use Rattle.std.specs.Float.{binary64}
 use Rattle.std.specs.Float.Ieee.{to_bits, of_bits}
-use Rattle.text.specs.declared.page.Place.{Place}
-use Rattle.text.specs.declared.word.Word.{Word}
 use Rattle.text.specs.Digits.{places_of, decimal, hexadecimal}
-use Rattle.text.specs.Page.{Page, puts, stands_of}
+use Rattle.text.specs.Page.{Sheet, puts, stands_of}
 use Rattle.text.specs.Words.{word_at, bytes_of}
 
 -- ---- text put on a page: one lemma over the text
 
-abbrev pub MeetsPut : List ℕ → Page → Place → List ℕ → Type 0
-MeetsPut t page r out = ◌≡◌ {A = Page} (r, out) (puts t page)
+abbrev pub MeetsPut : List ℕ → Sheet → Option ℕ → List ℕ → Type 0
+MeetsPut t page r out = ◌≡◌ {A = Sheet} (r, out) (puts t page)
 
-module _ (page : Page) {r s : Place} {out other : List ℕ} where
+module _ (page : Sheet) {r s : Option ℕ} {out other : List ℕ} where
   pub put_unique : (t : List ℕ) → MeetsPut t page r out → MeetsPut t page s other → (r ≡ s) × (out ≡ other)
-  put_unique t m o = let same = m ∙ sym o in (ap (λ (p : Page). p.0) same, ap (λ (p : Page). p.1) same)
+  put_unique t m o = let same = m ∙ sym o in (ap (λ (p : Sheet). p.0) same, ap (λ (p : Sheet). p.1) same)
 
   pub put_byte_unique : (b : ℕ) → MeetsPut (b ∷ []) page r out → MeetsPut (b ∷ []) page s other → (r ≡ s) × (out ≡ other)
   put_byte_unique b = put_unique (b ∷ [])
@@ -36,10 +34,10 @@ module _ (page : Page) {r s : Place} {out other : List ℕ} where
 
 -- ---- the others give one value
 
-abbrev pub MeetsStands : Place → Bool → Type 0
+abbrev pub MeetsStands : Option ℕ → Bool → Type 0
 MeetsStands place r = r ≡ stands_of place
 
-pub stands_unique : (place : Place) {r s : Bool} → MeetsStands place r → MeetsStands place s → r ≡ s
+pub stands_unique : (place : Option ℕ) {r s : Bool} → MeetsStands place r → MeetsStands place s → r ≡ s
 stands_unique place m o = m ∙ sym o
 
 abbrev pub MeetsPlaces : ℕ → ℕ → Type 0
@@ -60,8 +58,8 @@ MeetsDouble w r = r ≡ of_bits binary64 w
 pub double_unique : (w : ℕ) {r s : Float} → MeetsDouble w r → MeetsDouble w s → r ≡ s
 double_unique w m o = m ∙ sym o
 
-abbrev pub MeetsWordAt : List ℕ → ℕ → Word → Type 0
+abbrev pub MeetsWordAt : List ℕ → ℕ → Option ℕ → Type 0
 MeetsWordAt s at r = r ≡ word_at s at
 
-pub word_at_unique : (s : List ℕ) (at : ℕ) {r t : Word} → MeetsWordAt s at r → MeetsWordAt s at t → r ≡ t
+pub word_at_unique : (s : List ℕ) (at : ℕ) {r t : Option ℕ} → MeetsWordAt s at r → MeetsWordAt s at t → r ≡ t
 word_at_unique s at m o = m ∙ sym o

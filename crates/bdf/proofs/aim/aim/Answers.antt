@@ -5,10 +5,8 @@ use Rattle.bdf.proofs.aim.aim.Goals as goal
 
 pub returns-then-p-a : goal.returns-then-p-a
 unfolding aimed when◌then◌else◌
-returns-then-p-a c =
-    λ pivot. rw (rw c.aim_of-a.ensures at c.if-p-a.true) (c.cut_at_end.ensures pivot)
+returns-then-p-a c = rw (rw c.aim_of-a.ensures at c.if-p-a.true) c.cut_at_end.ensures
 
 pub returns : goal.returns
 unfolding aimed when◌then◌else◌
-returns c =
-    λ pivot. rw (rw c.aim_of-a.ensures at c.if-p-a.false, c.aim_of-a.ensures)
+returns c = rw (rw c.aim_of-a.ensures at c.if-p-a.false, c.aim_of-a.ensures)

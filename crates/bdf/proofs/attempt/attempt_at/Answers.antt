@@ -6,9 +6,9 @@ use Rattle.bdf.proofs.attempt.attempt_at.Goals as goal
 pub returns-then-must_factor : goal.returns-then-must_factor
 unfolding attempt_at predicted_all when◌then◌else◌
 returns-then-must_factor c =
-    rw (← c.predict.ensures, ← c.rescale.ensures, ← c.psi.ensures, ← c.must_factor.ensures c.args.pivot.now, c.if-must_factor.true) c.refactor.ensures
+    rw (← c.predict.ensures, ← c.rescale.ensures, ← c.psi.ensures, ← c.must_factor.ensures, c.if-must_factor.true) c.refactor.ensures
 
 pub returns : goal.returns
 unfolding attempt_at predicted_all when◌then◌else◌
 returns c =
-    rw (← c.predict.ensures, ← c.rescale.ensures, ← c.psi.ensures, ← c.must_factor.ensures c.args.pivot.now, c.if-must_factor.false) (c.newton_start.ensures c.args.pivot.now)
+    rw (← c.predict.ensures, ← c.rescale.ensures, ← c.psi.ensures, ← c.must_factor.ensures, c.if-must_factor.false) c.newton_start.ensures

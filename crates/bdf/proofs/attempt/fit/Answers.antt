@@ -4,5 +4,4 @@ use Rattle.bdf.proofs.attempt.fit.Goals as goal
 
 pub returns : goal.returns
 unfolding fitted
-returns c =
-    λ pivot. rw (← c.to_hmax-a.ensures) c.to_hmin.ensures
+returns c = rw (← c.to_hmax-pace.ensures) c.to_hmin.ensures

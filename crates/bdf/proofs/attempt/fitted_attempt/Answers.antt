@@ -2,12 +2,10 @@
 use Rattle.rules.specs.Attempt.{fitted_attempt}
 use Rattle.bdf.proofs.attempt.fitted_attempt.Goals as goal
 
-pub returns-in-AtEnd : goal.returns-in-AtEnd
+pub returns-in_default : goal.returns-in_default
 unfolding fitted_attempt
-returns-in-AtEnd c =
-    rw (← c.fit-pace.ensures c.args.pivot.now, ← c.aim-a.ensures c.args.pivot.now, c.in-AtEnd.is, c.end.ensures c.args.pivot.now)
+returns-in_default c = rw (← c.fit-p.ensures, ← c.aim.ensures, c.in_default.is, c.end.ensures)
 
-pub returns-in-At : goal.returns-in-At
+pub returns : goal.returns
 unfolding fitted_attempt
-returns-in-At c =
-    rw (← c.fit-pace.ensures c.args.pivot.now, ← c.aim-a.ensures c.args.pivot.now, c.in-At.is) c.unless_stuck.ensures
+returns c = rw (← c.fit-p.ensures, ← c.aim.ensures, c.in-Some.is) c.unless_stuck.ensures

@@ -4,5 +4,4 @@ use Rattle.bdf.proofs.attempt.halve.Goals as goal
 
 pub returns : goal.returns
 unfolding halved
-returns c =
-    λ pivot. rw c.rescale_d.ensures
+returns c = rw (c.changed-p.ensures, c.rescale_d.ensures)

@@ -3,12 +3,10 @@ use Rattle.loops.specs.Choice.{when◌then◌else◌}
 use Rattle.rules.specs.Attempt.{refactored}
 use Rattle.bdf.proofs.attempt.refactor.Goals as goal
 
-pub returns-then-ok : goal.returns-then-ok
+pub returns-then-regular : goal.returns-then-regular
 unfolding refactored when◌then◌else◌
-returns-then-ok c =
-    rw (← c.factor-ok.ensures, c.if-ok.true) (c.newton_start.ensures _)
+returns-then-regular c = rw (← c.factor-regular.ensures, c.if-regular.true) c.newton_start.ensures
 
 pub returns : goal.returns
 unfolding refactored when◌then◌else◌
-returns c =
-    rw (← c.factor-ok.ensures, c.if-ok.false, c.again.ensures _, ← c.halve.ensures _)
+returns c = rw (← c.factor-regular.ensures, c.if-regular.false, ← c.halve.ensures)

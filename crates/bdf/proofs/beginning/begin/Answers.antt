@@ -1,7 +1,5 @@
 -- `beginning::begin` goes by the checks of its definition, one answer a way; past them there is room for the run. Assumes nothing.
-use mathlib.Core.Path.{sym, ◌∙◌}
-use native.Mathlib.Omega.{arith}
-use borrow.Author.Tests.{lt-ltb, le-ltb, eq-eqb, ne_eqb}
+use Rattle.std.proofs.Common.{sym, ◌∙◌, arith, lt-ltb, le-ltb, eq-eqb, ne_eqb}
 use Rattle.loops.specs.Choice.{when◌then◌else◌}
 use Rattle.rules.specs.Begin.{begin_of}
 use Rattle.rules.proofs.laws.CheckLaws.{cleared}
@@ -17,15 +15,15 @@ returns-then-n-eq0 c = rw (le-ltb _ _ c.if-n-gt-MAX_N.false, eq-eqb _ _ c.if-n-e
 
 pub begin_run-requires : goal.begin_run-requires
 begin_run-requires c =
-    let k = cleared _ _ _ _ _ _ _ _ _ (sym c.checked-c.ensures ∙ c.in-Passed.is) in
+    let k = cleared _ _ _ _ _ _ _ _ _ (sym c.checked.ensures ∙ c.in-Ok.is) in
     (omega (arith, c.if-n-eq0.false), c.if-n-gt-MAX_N.false, k.works, k.asks, k.relative, k.absolute)
 
-pub returns-in-Refuse : goal.returns-in-Refuse
+pub returns-in-Err : goal.returns-in-Err
 unfolding begin_of when◌then◌else◌
-returns-in-Refuse c =
-    rw (le-ltb _ _ c.if-n-gt-MAX_N.false, ne_eqb _ _ c.if-n-eq0.false, ← c.signum-direction.ensures, ← c.checked-c.ensures, c.in-Refuse.is, c.nothing-in-Refuse.ensures)
+returns-in-Err c =
+    rw (le-ltb _ _ c.if-n-gt-MAX_N.false, ne_eqb _ _ c.if-n-eq0.false, ← c.signum-direction.ensures, ← c.checked.ensures, c.in-Err.is, c.nothing-in-Err.ensures)
 
-pub returns-in-Passed : goal.returns-in-Passed
+pub returns-in-Ok : goal.returns-in-Ok
 unfolding begin_of when◌then◌else◌
-returns-in-Passed c =
-    rw (le-ltb _ _ c.if-n-gt-MAX_N.false, ne_eqb _ _ c.if-n-eq0.false, ← c.signum-direction.ensures, ← c.checked-c.ensures, c.in-Passed.is) c.begin_run.ensures
+returns-in-Ok c =
+    rw (le-ltb _ _ c.if-n-gt-MAX_N.false, ne_eqb _ _ c.if-n-eq0.false, ← c.signum-direction.ensures, ← c.checked.ensures, c.in-Ok.is) c.begin_run.ensures

@@ -1,16 +1,9 @@
 -- `beginning::begin_run`: the needed places are lent, and what lies beyond them stays. Assumes nothing.
-use Rattle.std.specs.Prelude.{◌≤◌, length}
-use mathlib.Core.Path.{sym, ap}
-use lib.Seq.{length-take-le}
+use mathlib.Core.Path.{ap}
 use Rattle.rules.specs.declared.types.Progress.{Progress}
 use Rattle.rules.proofs.laws.NeededLaws.{room_needed, beyond_kept}
 use Rattle.rules.specs.Begin.{kept, begin_run}
 use Rattle.bdf.proofs.beginning.begin_run.Goals as goal
-
-pub slice_bounds-ask_first-end-2 : goal.slice_bounds-ask_first-end-2
-slice_bounds-ask_first-end-2 c =
-    let h : c.row-need.result ≤ length c.args.ws.now = rw c.row-need.ensures c.requires.2 in
-    sym (length-take-le _ _ h)
 
 pub ask_first-requires : goal.ask_first-requires
 unfolding kept

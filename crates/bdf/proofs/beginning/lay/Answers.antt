@@ -5,4 +5,4 @@ use Rattle.bdf.proofs.beginning.lay.Goals as goal
 pub returns : goal.returns
 unfolding begin_ws
 returns c =
-    rw (c.lay_tolerances-2.ensures, c.row-4.ensures, c.lay_tolerances.ensures, c.row-3.ensures, c.load.ensures, c.row-2.ensures, c.fill.ensures, c.row.ensures)
+    rw (c.lay-2.ensures, c.row-4.ensures, c.lay.ensures, c.row-3.ensures, c.load.ensures, c.row-2.ensures, c.fill.ensures, c.row.ensures)

@@ -1,27 +1,27 @@
 -- `checks::tolerances_checked` goes by the tests of its definition, one answer a way. Assumes nothing.
-use mathlib.Core.Path.{sym, ◌∙◌}
 use Rattle.loops.specs.Choice.{when◌then◌else◌}
 use Rattle.rules.specs.Checks.{tolerances_checked}
+use Rattle.std.proofs.Common.{rules}
 use Rattle.bdf.proofs.checks.tolerances_checked.Goals as goal
+use Rattle.bdf.proofs.checks.tolerances_checked.Goals.{then-not-reaches-via-then-not-reaches, then-not-reaches-via-else-not-reaches+then-not-reaches-2}
 
 pub returns-then-not-reaches : goal.returns-then-not-reaches
 unfolding tolerances_checked when◌then◌else◌
-returns-then-not-reaches c = rw (← c.reaches.ensures, c.if-not-reaches.true)
+returns-then-not-reaches c =
+    elim c.then-not-reaches.branch [
+      | then-not-reaches-via-then-not-reaches w ↦ rw (← c.reaches.ensures, w.if-not-reaches.true)
+      | then-not-reaches-via-else-not-reaches+then-not-reaches-2 w ↦
+          rw (← c.reaches.ensures, w.if-not-reaches.false, ← w.reaches-else-not-reaches.ensures, w.if-not-reaches-2.true)
+    ]
 
-pub returns-then-not-reaches-2 : goal.returns-then-not-reaches-2
+pub returns-in_err-negative : goal.returns-in_err-negative
 unfolding tolerances_checked when◌then◌else◌
-returns-then-not-reaches-2 c = rw (← c.reaches.ensures, c.if-not-reaches.false, ← c.reaches-2.ensures, c.if-not-reaches-2.true)
+returns-in_err-negative c =
+    rw (← c.reaches.ensures, c.if-not-reaches.false, ← c.reaches-else-not-reaches.ensures, c.if-not-reaches-2.false, ← c.negative.ensures, c.in_err-negative.was)
+    (search rules)
 
-pub negative-found-requires : goal.negative-found-requires
-negative-found-requires c = (sym c.reaches.ensures ∙ c.if-not-reaches.false, sym c.reaches-2.ensures ∙ c.if-not-reaches-2.false)
-
-pub returns-in-Refuse : goal.returns-in-Refuse
+pub returns : goal.returns
 unfolding tolerances_checked when◌then◌else◌
-returns-in-Refuse c =
-    rw (← c.reaches.ensures, c.if-not-reaches.false, ← c.reaches-2.ensures, c.if-not-reaches-2.false, ← c.negative-found.ensures, c.in-Refuse.is)
-
-pub returns-in-Passed : goal.returns-in-Passed
-unfolding tolerances_checked when◌then◌else◌
-returns-in-Passed c =
-    rw (← c.reaches.ensures, c.if-not-reaches.false, ← c.reaches-2.ensures, c.if-not-reaches-2.false, ← c.negative-found.ensures, c.in-Passed.is)
+returns c =
+    rw (← c.reaches.ensures, c.if-not-reaches.false, ← c.reaches-else-not-reaches.ensures, c.if-not-reaches-2.false, ← c.negative.ensures, c.in_ok-negative.was)
     c.limited.ensures

@@ -2,10 +2,10 @@
 use Rattle.loops.specs.Choice.{when◌then◌else◌}
 use Rattle.bdf.proofs.checks.zero_step.Goals as goal
 
-pub returns-then-h : goal.returns-then-h
+pub returns-in-Some : goal.returns-in-Some
 unfolding when◌then◌else◌
-returns-then-h c = rw (c.in-Given.is, c.if-h.true)
+returns-in-Some c = rw (c.in-Some.is, c.if-value.true)
 
-pub returns-else-h : goal.returns-else-h
+pub returns-in_default : goal.returns-in_default
 unfolding when◌then◌else◌
-returns-else-h c = rw (c.in-Given.is, c.if-h.false)
+returns-in_default c = rw (c.in-Some.is, c.if-value.false)

@@ -1,12 +1,12 @@
 -- `factor::factor`: the matrix, then lu_decomp on the part where it stands and on the first n pivots; whatever it answers, what
 -- it left there is kept. Assumes nothing.
-use Rattle.std.specs.Prelude.{◌≡◌, ℕ, ◌+◌, ◌-◌, ◌*◌, Bool, List, ◌++◌, take, drop}
-use mathlib.Core.Path.{ap}
-use native.Mathlib.Omega.{arith}
-use lib.ListN.{length-take}
-use lib.Ieee.{Float}
+use Rattle.std.specs.Prelude.{◌≡◌, refl, ℕ, ◌+◌, ◌-◌, ◌*◌, Bool, List, ◌++◌, take, drop, Float, Result, Ok, Err}
+use Rattle.std.proofs.Common.{sym, ◌∙◌, arith}
+use Rattle.std.specs.Result.{is_ok}
 use Rattle.loops.specs.Part.{part, over}
 use Rattle.loops.specs.Refusal.{Outcome}
+use Rattle.matrix.specs.declared.lu.LuError.{LuError}
+use Rattle.matrix.specs.declared.lu.LuError.TheVariants.{WrongSize, Singular}
 use Rattle.matrix.specs.Lu.{lu_decomp_of, LuOutcome, factoring_of}
 use Rattle.rules.specs.State.{left}
 use Rattle.rules.specs.Factor.{matrix, factored, went}
@@ -22,18 +22,10 @@ factors n c pivot ip ws w a said ok first second third =
     let answered : ◌≡◌ {A = LuOutcome} (said, a, ip) (lu_decomp_of (part (n * n) (n * n) w) (take n pivot)) = rw square at second in
     rw (square, ← first, ← answered, third)
 
-pub slice_bounds-lu_decomp-end-3 : goal.slice_bounds-lu_decomp-end-3
-slice_bounds-lu_decomp-end-3 c =
-    simp length-take (omega arith)
+ended : (r : Result (Unit {0}) LuError) → went (factoring_of r) ≡ is_ok r
+ended (Ok _) = refl
+ended (Err WrongSize) = refl
+ended (Err Singular) = refl
 
-pub returns-in-Factored : goal.returns-in-Factored
-returns-in-Factored c =
-    factors _ _ _ _ _ _ _ _ _ c.matrix_rows.ensures c.lu_decomp-answer.ensures (ap (λ s. went (factoring_of s)) c.in-Factored.is)
-
-pub returns-in-WrongSize : goal.returns-in-WrongSize
-returns-in-WrongSize c =
-    factors _ _ _ _ _ _ _ _ _ c.matrix_rows.ensures c.lu_decomp-answer.ensures (ap (λ s. went (factoring_of s)) c.in-WrongSize.is)
-
-pub returns-in-Singular : goal.returns-in-Singular
-returns-in-Singular c =
-    factors _ _ _ _ _ _ _ _ _ c.matrix_rows.ensures c.lu_decomp-answer.ensures (ap (λ s. went (factoring_of s)) c.in-Singular.is)
+pub returns : goal.returns
+returns c = factors _ _ _ _ _ _ _ _ _ c.matrix_rows.ensures c.lu_decomp.ensures (ended _ ∙ sym c.is_ok.ensures.value)

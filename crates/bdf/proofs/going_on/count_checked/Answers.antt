@@ -1,23 +1,21 @@
 -- `going_on::count_checked` goes by the tests of its definition, one answer a way. Assumes nothing.
-use borrow.Author.Tests.{lt-ltb, le-ltb}
+use Rattle.std.proofs.Common.{lt-ltb, le-ltb}
 use Rattle.loops.specs.Choice.{when◌then◌else◌}
 use Rattle.bdf.proofs.going_on.count_checked.Goals as goal
+use Rattle.bdf.proofs.going_on.count_checked.Goals.{then-room-row-via-then-room-row, then-room-row-via-else-room-row+then-questions-n, then-room-row-via-else-room-row+else-questions-n+then-given-count}
 
-pub returns-then-room-need : goal.returns-then-room-need
+pub returns-then-room-row : goal.returns-then-room-row
 unfolding when◌then◌else◌
-returns-then-room-need c = rw (c.in-Count.is, ← c.row-need.ensures, lt-ltb _ _ c.if-room-need.true)
+returns-then-room-row c =
+    rw (rw c.in_ok-count.was at c.ok_or.ensures.ok_part, ← c.row.ensures)
+    (elim c.then-room-row.branch [
+      | then-room-row-via-then-room-row w ↦ rw (lt-ltb _ _ w.if-room-row.true)
+      | then-room-row-via-else-room-row+then-questions-n w ↦ rw (le-ltb _ _ w.if-room-row.false, lt-ltb _ _ w.if-questions-n.true)
+      | then-room-row-via-else-room-row+else-questions-n+then-given-count w ↦
+          rw (le-ltb _ _ w.if-room-row.false, le-ltb _ _ w.if-questions-n.false, lt-ltb _ _ w.if-given-count.true)
+    ])
 
-pub returns-then-questions-asks : goal.returns-then-questions-asks
+pub returns : goal.returns
 unfolding when◌then◌else◌
-returns-then-questions-asks c = rw (c.in-Count.is, ← c.row-need.ensures, le-ltb _ _ c.if-room-need.false, lt-ltb _ _ c.if-questions-asks.true)
-
-pub returns-then-given-count : goal.returns-then-given-count
-unfolding when◌then◌else◌
-returns-then-given-count c = rw (c.in-Count.is, ← c.row-need.ensures, le-ltb _ _ c.if-room-need.false, le-ltb _ _ c.if-questions-asks.false, lt-ltb _ _ c.if-given-count.true)
-
-pub returns-in-Unsuited : goal.returns-in-Unsuited
-returns-in-Unsuited c = rw c.in-Unsuited.is
-
-pub returns-else-given-count : goal.returns-else-given-count
-unfolding when◌then◌else◌
-returns-else-given-count c = rw (c.in-Count.is, ← c.row-need.ensures, le-ltb _ _ c.if-room-need.false, le-ltb _ _ c.if-questions-asks.false, le-ltb _ _ c.if-given-count.false)
+returns c =
+    rw (rw c.in_ok-count.was at c.ok_or.ensures.ok_part, ← c.row.ensures, le-ltb _ _ c.if-room-row.false, le-ltb _ _ c.if-questions-n.false, le-ltb _ _ c.if-given-count.false)

@@ -1,21 +1,33 @@
 -- `going_on::steps_damaged` tells the sum's bound by a difference. Assumes nothing.
-use borrow.Author.Tests.{lt-ltb, le-ltb}
+use Rattle.std.proofs.Common.{◌≡◌, ℕ, ◌+◌, ◌-◌, ◌||◌, ltb, lt-ltb, le-ltb, arith}
+use Rattle.std.proofs.lemmas.Bool.Decides.{nat_tests}
 use Rattle.rules.specs.GoOn.{steps_damaged}
-use Rattle.rules.proofs.laws.DamageLaws.{rejected_above, accepted_above, within_total}
 use Rattle.bdf.proofs.going_on.steps_damaged.Goals as goal
+use Rattle.bdf.proofs.going_on.steps_damaged.Goals.{then-p, else-p}
 
-pub returns-then-p : goal.returns-then-p
-unfolding steps_damaged
-returns-then-p c = rw (lt-ltb _ _ c.if-p.true)
+by_difference :
+    (limit total accepted rejected : ℕ) →
+    (ltb limit total || ltb total rejected || ltb (total - rejected) accepted) ≡ (ltb limit total || ltb total (accepted + rejected))
+by_difference limit total accepted rejected = grind (arith, nat_tests)
 
 pub returns-then-p-2 : goal.returns-then-p-2
 unfolding steps_damaged
-returns-then-p-2 c = rw (le-ltb _ _ c.if-p.false, rejected_above c.args.p.steps.accepted c.if-p-2.true)
+returns-then-p-2 c =
+    let p = c.args.p.now in
+    let first : c.if-p.value ≡ (ltb p.limits.steps p.steps.total || ltb p.steps.total p.steps.rejected) = elim c.if-p.branch [
+      | then-p w ↦ rw (w.value-is, lt-ltb _ _ w.if-p.true)
+      | else-p w ↦ rw (w.value-is, le-ltb _ _ w.if-p.false)
+    ] in
+    let whole = rw (← first) at (by_difference p.limits.steps p.steps.total p.steps.accepted p.steps.rejected) in
+    rw c.if-p-2.true (rw c.if-p-2.true at whole)
 
-pub returns-then-not_rejected-p : goal.returns-then-not_rejected-p
+pub returns-else-p-2 : goal.returns-else-p-2
 unfolding steps_damaged
-returns-then-not_rejected-p c = rw (le-ltb _ _ c.if-p.false, accepted_above c.if-p-2.false c.if-not_rejected-p.true)
-
-pub returns : goal.returns
-unfolding steps_damaged
-returns c = rw (le-ltb _ _ c.if-p.false, within_total c.if-p-2.false c.if-not_rejected-p.false)
+returns-else-p-2 c =
+    let p = c.args.p.now in
+    let first : c.if-p.value ≡ (ltb p.limits.steps p.steps.total || ltb p.steps.total p.steps.rejected) = elim c.if-p.branch [
+      | then-p w ↦ rw (w.value-is, lt-ltb _ _ w.if-p.true)
+      | else-p w ↦ rw (w.value-is, le-ltb _ _ w.if-p.false)
+    ] in
+    let whole = rw (← first) at (by_difference p.limits.steps p.steps.total p.steps.accepted p.steps.rejected) in
+    rw c.if-p-2.false at whole

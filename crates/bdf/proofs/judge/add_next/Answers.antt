@@ -1,27 +1,11 @@
--- `judge::add_next`: one place of row k a turn. Assumes nothing.
-use mathlib.Core.Path.{refl}
-use native.Mathlib.Omega.{arith}
-use Rattle.loops.specs.laws.Turned.{turn_none, turn_more, turn_all}
-use Rattle.rules.proofs.laws.ReadyLaws.{room_kept}
+-- `judge::add_next`: row k takes its sum with the next. Assumes nothing.
+use Rattle.std.proofs.Common.{rules}
+use Rattle.std.specs.Prelude.{◌+◌}
+use Rattle.loops.specs.Arithmetic.{◌⊕◌}
+use Rattle.rules.specs.Places.{get}
 use Rattle.rules.specs.Judge.{add_next_turn, add_next}
 use Rattle.bdf.proofs.judge.add_next.Goals as goal
 
-pub loop-i-init : goal.loop-i-init
-loop-i-init c = (refl, turn_none (omega arith))
-
-pub get-requires : goal.get-requires
-get-requires c = (room_kept c.requires.0 c.loop-i.invariant.0, omega arith, omega arith)
-
-pub get-requires-in-loop-i : goal.get-requires-in-loop-i
-get-requires-in-loop-i c = (room_kept c.requires.0 c.loop-i.invariant.0, omega arith, omega arith)
-
-pub put-requires : goal.put-requires
-put-requires c = (room_kept c.requires.0 c.loop-i.invariant.0, omega arith, omega arith)
-
-pub loop-i-preserved : goal.loop-i-preserved
-unfolding add_next_turn
-loop-i-preserved c = (omega arith, turn_more c.loop-i.invariant.1 (omega arith) (rw (c.get.ensures, c.get-in-loop-i.ensures) at c.put.ensures))
-
 pub returns : goal.returns
-unfolding add_next
-returns c = turn_all c.loop-i.invariant.1 c.loop-i-test.false
+unfolding add_next add_next_turn
+returns c = c.set_row.ensures (λ w i. get c.args.n w c.args.k i ⊕ get c.args.n w (c.args.k + 1) i) (λ w i x says. search rules)

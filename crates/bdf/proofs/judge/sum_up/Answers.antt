@@ -2,15 +2,11 @@
 use mathlib.Core.Path.{refl}
 use native.Mathlib.Omega.{arith}
 use Rattle.loops.specs.laws.Turned.{turn_none, turn_more, turn_all}
-use Rattle.rules.proofs.laws.ReadyLaws.{room_kept}
 use Rattle.rules.specs.Judge.{summed_turn, summed}
 use Rattle.bdf.proofs.judge.sum_up.Goals as goal
 
 pub loop-j-init : goal.loop-j-init
 loop-j-init c = (refl, turn_none (omega arith))
-
-pub add_next-requires : goal.add_next-requires
-add_next-requires c = (room_kept c.requires.0 c.loop-j.invariant.0, omega arith)
 
 pub loop-j-preserved : goal.loop-j-preserved
 unfolding summed_turn

@@ -1,24 +1,10 @@
--- `judge::weigh`: one place of the right side a turn. Assumes nothing.
-use mathlib.Core.Path.{refl}
-use native.Mathlib.Omega.{arith}
-use Rattle.loops.specs.laws.Turned.{turn_none, turn_more, turn_all}
-use Rattle.rules.proofs.laws.ReadyLaws.{room_kept}
+-- `judge::weigh`: the right side takes k times the vector. Assumes nothing.
+use Rattle.std.proofs.Common.{rules}
+use Rattle.loops.specs.Arithmetic.{◌⊗◌}
+use Rattle.rules.specs.Places.{get}
 use Rattle.rules.specs.Judge.{weigh_turn, weighed}
 use Rattle.bdf.proofs.judge.weigh.Goals as goal
 
-pub loop-i-init : goal.loop-i-init
-loop-i-init c = (refl, turn_none (omega arith))
-
-pub get-requires : goal.get-requires
-get-requires c = (room_kept c.requires.0 c.loop-i.invariant.0, omega arith, omega arith)
-
-pub put-requires : goal.put-requires
-put-requires c = (room_kept c.requires.0 c.loop-i.invariant.0, omega arith, omega arith)
-
-pub loop-i-preserved : goal.loop-i-preserved
-unfolding weigh_turn
-loop-i-preserved c = (omega arith, turn_more c.loop-i.invariant.1 (omega arith) (rw c.get.ensures at c.put.ensures))
-
 pub returns : goal.returns
-unfolding weighed
-returns c = turn_all c.loop-i.invariant.1 c.loop-i-test.false
+unfolding weighed weigh_turn
+returns c = c.set_row.ensures (λ w i. c.args.k ⊗ get c.args.n w c.args.v i) (λ w i x says. search rules)

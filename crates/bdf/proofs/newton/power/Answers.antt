@@ -1,17 +1,9 @@
--- `newton::power`: one factor a turn. Assumes nothing.
-use mathlib.Core.Path.{refl}
-use native.Mathlib.Omega.{arith}
-use Rattle.loops.specs.laws.Turned.{turn_none, turn_more, turn_all}
+-- `newton::power`: the fold is the loop of the definition. Assumes nothing.
+use Rattle.std.proofs.Common.{rules, refl}
 use Rattle.rules.specs.Newton.{power_turn, power}
+use Rattle.bdf.proofs.FoldLaws.{folded}
 use Rattle.bdf.proofs.newton.power.Goals as goal
 
-pub loop-i-init : goal.loop-i-init
-loop-i-init c = turn_none (omega arith)
-
-pub loop-i-preserved : goal.loop-i-preserved
-unfolding power_turn
-loop-i-preserved c = turn_more c.loop-i.invariant (omega arith) refl
-
 pub returns : goal.returns
-unfolding power
-returns c = turn_all c.loop-i.invariant c.loop-i-test.false
+unfolding power power_turn
+returns c = folded _ (power_turn c.args.x) 0 c.args.k _ _ _ _ refl (λ sum i b f' called. search rules) c.fold.ensures.ran

@@ -2,7 +2,6 @@
 use Rattle.std.specs.Prelude.{◌≡◌, ℕ, ◌+◌, ◌-◌, ◌*◌, ◌≤◌, List, length, take}
 use mathlib.Core.Path.{◌∙◌}
 use native.Mathlib.Omega.{arith}
-use lib.ListN.{length-take}
 use lib.Ieee.{Float}
 use Rattle.loops.specs.Part.{part}
 use Rattle.loops.specs.Refusal.{Outcome}
@@ -23,10 +22,6 @@ solves n pivot ws b₀ b₁ b₂ after said whole within same first second third
     let square : n * n + n * n - n * n ≡ n * n = omega arith in
     let answered : ◌≡◌ {A = SolveOutcome} (said, b₂) (lin_solve_of (part (n * n) (n * n) ws) b₁ (take n pivot)) = rw square at second in
     rw (← right, ← answered) (third ∙ back)
-
-pub slice_bounds-lin_solve-end-2 : goal.slice_bounds-lin_solve-end-2
-slice_bounds-lin_solve-end-2 c =
-    simp length-take (omega arith)
 
 pub returns : goal.returns
 returns c =

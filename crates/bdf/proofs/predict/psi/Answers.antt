@@ -1,24 +1,11 @@
--- `predict::psi`: one component a turn. Assumes nothing.
-use mathlib.Core.Path.{refl}
-use native.Mathlib.Omega.{arith}
-use Rattle.loops.specs.laws.Turned.{turn_none, turn_more, turn_all}
-use Rattle.rules.proofs.laws.ReadyLaws.{room_kept}
-use Rattle.rules.specs.Predict.{psi_turn, psied}
+-- `predict::psi`: psi takes the sum over alpha. Assumes nothing.
+use Rattle.std.proofs.Common.{rules}
+use Rattle.loops.specs.Arithmetic.{◌⊘◌}
+use Rattle.loops.specs.Cell.{at}
+use Rattle.rules.specs.Tables.{alphas}
+use Rattle.rules.specs.Predict.{psi_sum, psi_turn, psied}
 use Rattle.bdf.proofs.predict.psi.Goals as goal
 
-pub loop-i-init : goal.loop-i-init
-loop-i-init c = (refl, turn_none (omega arith))
-
-pub psi_sum-requires : goal.psi_sum-requires
-psi_sum-requires c = (room_kept c.requires.0 c.loop-i.invariant.0, omega arith, omega arith)
-
-pub put-requires : goal.put-requires
-put-requires c = (room_kept c.requires.0 c.loop-i.invariant.0, omega arith, omega arith)
-
-pub loop-i-preserved : goal.loop-i-preserved
-unfolding psi_turn
-loop-i-preserved c = (omega arith, turn_more c.loop-i.invariant.1 (omega arith) (rw (c.psi_sum.ensures, c.alpha-a.ensures) at c.put.ensures))
-
 pub returns : goal.returns
-unfolding psied
-returns c = turn_all c.loop-i.invariant.1 c.loop-i-test.false
+unfolding psied psi_turn
+returns c = c.set_row.ensures (λ w i. psi_sum c.args.n w c.args.order i ⊘ at alphas c.args.order) (λ w i x says. search rules)

@@ -1,19 +1,10 @@
--- `predict::psi_sum`: one difference a turn. Assumes nothing.
-use native.Mathlib.Omega.{arith}
-use Rattle.loops.specs.laws.Turned.{turn_none, turn_more, turn_all}
+-- `predict::psi_sum`: the fold is the loop of the definition. Assumes nothing.
+use Rattle.std.proofs.Common.{rules, refl}
+use Rattle.std.specs.Prelude.{◌+◌}
 use Rattle.rules.specs.Predict.{psi_sum_turn, psi_sum}
+use Rattle.bdf.proofs.FoldLaws.{folded}
 use Rattle.bdf.proofs.predict.psi_sum.Goals as goal
 
-pub loop-j-init : goal.loop-j-init
-loop-j-init c = turn_none (omega arith)
-
-pub get-requires : goal.get-requires
-get-requires c = (c.requires.0, omega arith, omega arith)
-
-pub loop-j-preserved : goal.loop-j-preserved
-unfolding psi_sum_turn
-loop-j-preserved c = turn_more c.loop-j.invariant (omega arith) (rw (c.gamma.ensures, c.get.ensures))
-
 pub returns : goal.returns
-unfolding psi_sum
-returns c = turn_all c.loop-j.invariant (omega arith)
+unfolding psi_sum psi_sum_turn
+returns c = folded _ (psi_sum_turn c.args.n c.args.ws.now c.args.i) 1 (c.args.order + 1) _ _ _ _ refl (λ sum i b f' called. search rules) c.fold.ensures.ran

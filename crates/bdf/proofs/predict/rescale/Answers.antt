@@ -1,24 +1,8 @@
--- `predict::rescale`: the scale of one component a turn. Assumes nothing.
-use mathlib.Core.Path.{refl}
-use native.Mathlib.Omega.{arith}
-use Rattle.loops.specs.laws.Turned.{turn_none, turn_more, turn_all}
-use Rattle.rules.proofs.laws.ReadyLaws.{room_kept}
-use Rattle.rules.specs.Predict.{scale_turn, scaled}
+-- `predict::rescale`: the scale takes that of each component. Assumes nothing.
+use Rattle.std.proofs.Common.{rules}
+use Rattle.rules.specs.Predict.{scale_at, scale_turn, scaled}
 use Rattle.bdf.proofs.predict.rescale.Goals as goal
 
-pub loop-i-init : goal.loop-i-init
-loop-i-init c = (refl, turn_none (omega arith))
-
-pub scale_at-s-requires : goal.scale_at-s-requires
-scale_at-s-requires c = (room_kept c.requires.0 c.loop-i.invariant.0, omega arith, omega arith)
-
-pub put-requires : goal.put-requires
-put-requires c = (room_kept c.requires.0 c.loop-i.invariant.0, omega arith, omega arith)
-
-pub loop-i-preserved : goal.loop-i-preserved
-unfolding scale_turn
-loop-i-preserved c = (omega arith, turn_more c.loop-i.invariant.1 (omega arith) (rw c.scale_at-s.ensures at c.put.ensures))
-
 pub returns : goal.returns
-unfolding scaled
-returns c = turn_all c.loop-i.invariant.1 c.loop-i-test.false
+unfolding scaled scale_turn
+returns c = c.set_row.ensures (λ w i. scale_at c.args.n w c.args.v i) (λ w i x says. search rules)

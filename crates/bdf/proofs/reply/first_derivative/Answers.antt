@@ -4,5 +4,4 @@ use Rattle.bdf.proofs.reply.first_derivative.Goals as goal
 
 pub returns : goal.returns
 unfolding first_derivative
-returns c =
-    λ pivot. rw (← c.row.ensures, ← c.load.ensures) (c.ask_jacobian.ensures pivot)
+returns c = rw (← c.row.ensures, ← c.load.ensures) c.ask.ensures

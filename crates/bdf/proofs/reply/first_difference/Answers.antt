@@ -1,17 +1,11 @@
--- `reply::first_difference`: one component a turn. Assumes nothing.
-use mathlib.Core.Path.{refl}
-use native.Mathlib.Omega.{arith}
-use Rattle.loops.specs.laws.Turned.{turn_none, turn_more, turn_all}
+-- `reply::first_difference`: the first differences are those of f0. Assumes nothing.
+use Rattle.std.proofs.Common.{rules}
+use Rattle.loops.specs.Arithmetic.{◌⊗◌}
+use Rattle.rules.specs.Places.{f0, get}
 use Rattle.rules.specs.Reply.{first_turn, first_difference}
 use Rattle.bdf.proofs.reply.first_difference.Goals as goal
 
-pub loop-i-preserved : goal.loop-i-preserved
-unfolding first_turn
-loop-i-preserved c = (omega arith, turn_more c.loop-i.invariant.1 (omega arith) (rw c.get.ensures at c.put.ensures))
-
 pub returns : goal.returns
-unfolding first_difference
-returns c = turn_all c.loop-i.invariant.1 c.loop-i-test.false
-
-pub loop-i-init : goal.loop-i-init
-loop-i-init c = (refl, turn_none (omega arith))
+unfolding first_difference first_turn
+returns c =
+    c.set_row.ensures (λ w i. get c.args.n w f0 i ⊗ c.args.h ⊗ c.args.direction) (λ w i x says. search rules)

@@ -4,5 +4,4 @@ use Rattle.bdf.proofs.reply.hinit_asks.Goals as goal
 
 pub returns : goal.returns
 unfolding hinit_asks
-returns c =
-    λ pivot. rw (c.says.ensures pivot, c.tell.ensures, c.euler.ensures, c.guess-h.ensures)
+returns c = rw (c.tell.ensures, c.euler.ensures, c.guess-h.ensures)

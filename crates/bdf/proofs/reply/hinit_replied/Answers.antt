@@ -4,5 +4,4 @@ use Rattle.bdf.proofs.reply.hinit_replied.Goals as goal
 
 pub returns : goal.returns
 unfolding hinit_replied
-returns c =
-    λ pivot. rw (← c.row.ensures, ← c.load.ensures, ← c.hinit-g.ensures, ← c.within_span-h.ensures) (c.start.ensures pivot)
+returns c = rw (← c.row.ensures, ← c.load.ensures, ← c.hinit-g.ensures, ← c.within_span-h.ensures) c.start.ensures

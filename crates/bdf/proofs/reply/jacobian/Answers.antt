@@ -4,5 +4,4 @@ use Rattle.bdf.proofs.reply.jacobian.Goals as goal
 
 pub returns : goal.returns
 unfolding jacobian_stored
-returns c =
-    λ pivot. rw c.load.ensures
+returns c = rw c.load.ensures

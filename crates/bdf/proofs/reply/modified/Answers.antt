@@ -4,5 +4,4 @@ use Rattle.bdf.proofs.reply.modified.Goals as goal
 
 pub returns : goal.returns
 unfolding modified
-returns c =
-    λ pivot. let stored = rw c.row.ensures at c.load.ensures in rw (← stored) (c.ask_derivative.ensures pivot)
+returns c = let stored = rw c.row.ensures at c.load.ensures in rw (← stored) c.ask.ensures

@@ -1,12 +1,9 @@
 -- `reply::order_jacobian`: its callees one after the other. Assumes nothing.
-use Rattle.std.specs.Prelude.{[]}
 use Rattle.rules.specs.Reply.{order_jacobian}
 use Rattle.rules.proofs.laws.ReplyLaws.{stored_ready}
-use Rattle.bdf.proofs.CoreLaws.{again_prepared, again_rest}
 use Rattle.bdf.proofs.reply.order_jacobian.Goals as goal
 
 pub returns : goal.returns
 unfolding order_jacobian
 returns c =
-    let ready = stored_ready c.requires.0 _ (c.jacobian-r.ensures []) c.jacobian-r.auto.ws in
-    (again_prepared c.again.result _ _ (c.again.ensures []) ready, λ pivot. rw (← c.jacobian-r.ensures pivot) (again_rest c.again.result _ _ pivot (c.again.ensures pivot)))
+    (stored_ready c.requires.0 _ c.jacobian.ensures c.jacobian.auto.ws, rw (← c.jacobian.ensures))

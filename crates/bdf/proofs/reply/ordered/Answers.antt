@@ -1,5 +1,5 @@
 -- `reply::ordered`: its callees one after the other. The order chosen is one of 1 to 5. Assumes nothing.
-use mathlib.Core.Path.{◌∙◌}
+use Rattle.std.proofs.Common.{◌∙◌}
 use Rattle.rules.proofs.laws.ReadyLaws.{room_kept}
 use Rattle.rules.proofs.laws.OrderLaws.{choice_within}
 use Rattle.rules.specs.Reply.{ordered}
@@ -14,4 +14,4 @@ chosen-requires c =
 pub returns : goal.returns
 unfolding ordered
 returns c =
-    (c.chosen.ensures.0, λ pivot. rw (← c.err_m-m.ensures, ← c.err_p-a.ensures, ← c.choose-c.ensures) (c.chosen.ensures.1 pivot))
+    (c.chosen.ensures.0, rw (← c.err_m-m.ensures, ← c.err_p-a.ensures, ← c.choose-c.ensures) c.chosen.ensures.1)

@@ -4,5 +4,4 @@ use Rattle.bdf.proofs.reply.start.Goals as goal
 
 pub returns : goal.returns
 unfolding started
-returns c =
-    λ pivot. rw (c.says.ensures pivot, c.tell.ensures, c.differences.ensures, c.min-h.ensures, c.max.ensures)
+returns c = rw (c.changed-p.ensures, c.tell.ensures, c.differences.ensures, c.min-h.ensures, c.max.ensures)

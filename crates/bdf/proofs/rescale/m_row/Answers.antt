@@ -1,23 +1,12 @@
 -- `rescale::m_row`: one entry of row i a turn. Assumes nothing.
 use mathlib.Core.Path.{refl}
-use Rattle.std.specs.Prelude.{◌^◌}
 use native.Mathlib.Omega.{arith}
 use Rattle.loops.specs.laws.Turned.{turn_none, turn_more, turn_all}
-use lib.Dec.{le→leb}
-use lib.Ieee.{in_float}
 use Rattle.rules.specs.Rescale.{m_row, m_turn}
 use Rattle.bdf.proofs.rescale.m_row.Goals as goal
 
-pub int_to_float-above : goal.int_to_float-above
-unfolding in_float
-int_to_float-above c = le→leb c.args.i (2 ^ 53) (omega arith)
-
 pub loop-j-init : goal.loop-j-init
 loop-j-init c = turn_none (omega arith)
-
-pub int_to_float-m : goal.int_to_float-m
-unfolding in_float
-int_to_float-m c = le→leb c.loop-j.j (2 ^ 53) (omega arith)
 
 pub loop-j-preserved : goal.loop-j-preserved
 unfolding m_turn

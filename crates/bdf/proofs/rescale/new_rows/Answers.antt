@@ -1,21 +1,12 @@
 -- `rescale::new_rows`: one row a turn. Assumes nothing.
-use Rattle.std.specs.Prelude.{◌+◌, ◌*◌, ◌≤◌}
 use mathlib.Core.Path.{refl}
 use native.Mathlib.Omega.{arith}
 use Rattle.loops.specs.laws.Turned.{turn_none, turn_more, turn_all}
-use Rattle.loops.specs.laws.RowLaws.{row_within}
 use Rattle.rules.specs.Rescale.{new_rows}
 use Rattle.bdf.proofs.rescale.new_rows.Goals as goal
 
 pub loop-i-init : goal.loop-i-init
 loop-i-init c = (refl, turn_none (omega arith))
-
-pub new_row-requires : goal.new_row-requires
-new_row-requires c =
-    let loop = c.loop-i in
-    let args = c.args in
-    let below : loop.i * args.n + args.n ≤ 6 * args.n = row_within args.n (omega arith) in
-    omega arith
 
 pub loop-i-preserved : goal.loop-i-preserved
 loop-i-preserved c = (omega arith, turn_more c.loop-i.invariant.1 (omega arith) c.new_row.ensures)

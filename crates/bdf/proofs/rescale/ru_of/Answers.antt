@@ -4,7 +4,7 @@ use Rattle.unit.proofs.promises.UnitTable.{product_by_the_table}
 use Rattle.bdf.proofs.rescale.ru_of.Goals as goal
 
 pub returns : goal.returns
-returns c =
-    let r = compute_r c.args.order c.args.factor in
-    rw (c.compute_r-r.ensures, c.unit_r-u.ensures, product_by_the_table c.args.order r c.requires)
+returns g c =
+    let r = compute_r g.row.ORDER c.args.factor in
+    rw (c.compute_r-r.ensures, c.unit_r-u.ensures, product_by_the_table g.row.ORDER r c.requires)
     at c.matmul.ensures

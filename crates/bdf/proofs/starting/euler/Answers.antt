@@ -1,27 +1,10 @@
--- `starting::euler`: one component a turn. Assumes nothing.
-use mathlib.Core.Path.{refl}
-use native.Mathlib.Omega.{arith}
-use Rattle.loops.specs.laws.Turned.{turn_none, turn_more, turn_all}
-use Rattle.rules.proofs.laws.ReadyLaws.{room_kept}
+-- `starting::euler`: y1 takes a step of Euler. Assumes nothing.
+use Rattle.std.proofs.Common.{rules}
+use Rattle.loops.specs.Arithmetic.{◌⊕◌, ◌⊗◌}
+use Rattle.rules.specs.Places.{y, f0, get}
 use Rattle.rules.specs.Starting.{euler_turn, euler}
 use Rattle.bdf.proofs.starting.euler.Goals as goal
 
-pub loop-i-init : goal.loop-i-init
-loop-i-init c = (refl, turn_none (omega arith))
-
-pub get-requires : goal.get-requires
-get-requires c = (room_kept c.requires c.loop-i.invariant.0, omega arith, omega arith)
-
-pub get-requires-in-loop-i : goal.get-requires-in-loop-i
-get-requires-in-loop-i c = (room_kept c.requires c.loop-i.invariant.0, omega arith, omega arith)
-
-pub put-requires : goal.put-requires
-put-requires c = (room_kept c.requires c.loop-i.invariant.0, omega arith, omega arith)
-
-pub loop-i-preserved : goal.loop-i-preserved
-unfolding euler_turn
-loop-i-preserved c = (omega arith, turn_more c.loop-i.invariant.1 (omega arith) (rw (c.get.ensures, c.get-in-loop-i.ensures) at c.put.ensures))
-
 pub returns : goal.returns
-unfolding euler
-returns c = turn_all c.loop-i.invariant.1 c.loop-i-test.false
+unfolding euler euler_turn
+returns c = c.set_row.ensures (λ w i. get c.args.n w y i ⊕ c.args.h ⊗ get c.args.n w f0 i) (λ w i x says. search rules)

@@ -1,22 +1,9 @@
--- `starting::squares`: one component a turn. Assumes nothing.
-use native.Mathlib.Omega.{arith}
-use Rattle.loops.specs.laws.Turned.{turn_none, turn_more, turn_all}
+-- `starting::squares`: the fold is the loop of the definition. Assumes nothing.
+use Rattle.std.proofs.Common.{rules, refl}
 use Rattle.rules.specs.Starting.{squares_turn, squares}
+use Rattle.bdf.proofs.FoldLaws.{folded}
 use Rattle.bdf.proofs.starting.squares.Goals as goal
 
-pub loop-i-init : goal.loop-i-init
-loop-i-init c = turn_none (omega arith)
-
-pub get-requires : goal.get-requires
-get-requires c = (c.requires.0, omega arith, omega arith)
-
-pub sk-requires : goal.sk-requires
-sk-requires c = (c.requires.0, omega arith)
-
-pub loop-i-preserved : goal.loop-i-preserved
-unfolding squares_turn
-loop-i-preserved c = turn_more c.loop-i.invariant (omega arith) (rw (c.get.ensures, c.sk.ensures))
-
 pub returns : goal.returns
-unfolding squares
-returns c = turn_all c.loop-i.invariant c.loop-i-test.false
+unfolding squares squares_turn
+returns c = folded _ (squares_turn c.args.n c.args.v c.args.ws.now) 0 c.args.n _ _ _ _ refl (λ sum i b f' called. search rules) c.fold.ensures.ran

@@ -5,15 +5,14 @@ use Rattle.bdf.proofs.step.iterated.Goals as goal
 
 pub returns-then-converged : goal.returns-then-converged
 unfolding iterated when◌then◌else◌
-returns-then-converged c =
-    λ pivot. rw (← c.converged.ensures, c.if-converged.true) (c.judge.ensures pivot)
+returns-then-converged c = rw (← c.converged.ensures, c.if-converged.true) c.judge.ensures
 
 pub returns-then-gave_up : goal.returns-then-gave_up
 unfolding iterated when◌then◌else◌
 returns-then-gave_up c =
-    λ pivot. rw (← c.converged.ensures, c.if-converged.false, ← c.gave_up.ensures, c.if-gave_up.true) (c.newton_failed.ensures pivot)
+    rw (← c.converged.ensures, c.if-converged.false, ← c.gave_up.ensures, c.if-gave_up.true) c.newton_failed.ensures
 
 pub returns : goal.returns
 unfolding iterated when◌then◌else◌
 returns c =
-    λ pivot. rw (← c.converged.ensures, c.if-converged.false, ← c.gave_up.ensures, c.if-gave_up.false) (c.newton_again.ensures pivot)
+    rw (← c.converged.ensures, c.if-converged.false, ← c.gave_up.ensures, c.if-gave_up.false) c.newton_again.ensures

@@ -6,9 +6,9 @@ use Rattle.bdf.proofs.step.judge.Goals as goal
 pub returns-then-error_fails : goal.returns-then-error_fails
 unfolding judged error_ws when◌then◌else◌
 returns-then-error_fails c =
-    λ pivot. rw (← c.rescale.ensures, ← c.error_const.ensures, ← c.weigh.ensures, ← c.rhs_norm-norm.ensures, ← c.safety-s.ensures, ← c.error_fails.ensures, c.if-error_fails.true, ← c.error_rejected.ensures pivot)
+    rw (← c.rescale.ensures, ← c.error_const.ensures, ← c.weigh.ensures, ← c.rhs_norm-norm.ensures, ← c.safety-s.ensures, ← c.error_fails.ensures, c.if-error_fails.true, ← c.error_rejected.ensures)
 
 pub returns : goal.returns
 unfolding judged error_ws when◌then◌else◌
 returns c =
-    λ pivot. rw (← c.rescale.ensures, ← c.error_const.ensures, ← c.weigh.ensures, ← c.rhs_norm-norm.ensures, ← c.safety-s.ensures, ← c.error_fails.ensures, c.if-error_fails.false) (c.step_accepted.ensures pivot)
+    rw (← c.rescale.ensures, ← c.error_const.ensures, ← c.weigh.ensures, ← c.rhs_norm-norm.ensures, ← c.safety-s.ensures, ← c.error_fails.ensures, c.if-error_fails.false) c.step_accepted.ensures

@@ -4,5 +4,4 @@ use Rattle.bdf.proofs.step.newton_again.Goals as goal
 
 pub returns : goal.returns
 unfolding newton_again
-returns c =
-    λ pivot. rw (c.says.ensures pivot, c.tell.ensures)
+returns c = rw c.tell.ensures

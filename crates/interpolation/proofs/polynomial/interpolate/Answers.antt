@@ -1,5 +1,6 @@
 -- `polynomial::interpolate` goes by the tests of its definition, one answer a way; past them its callees compute the values.
 -- Assumes nothing.
+use Rattle.std.proofs.Common.{inl, inr}
 use borrow.Author.Tests.{lt-ltb, le-ltb, eq-eqb, ne_eqb}
 use Rattle.loops.specs.Choice.{when◌then◌else◌}
 use Rattle.interpolation.specs.Interpolate.{interpolation, values_at}
@@ -14,27 +15,27 @@ pub returns-then-cont-n : goal.returns-then-cont-n
 unfolding interpolation when◌then◌else◌
 returns-then-cont-n c = rw (le-ltb _ _ c.if-n-gt-MAX_N.false, ne_eqb _ _ c.if-cont-n.true)
 
+pub values_at-requires : goal.values_at-requires
+values_at-requires c = (rw c.order_of-order.ensures (order_at_most_5 _), c.if-cont-n.false)
+
 pub returns-then-h : goal.returns-then-h
 unfolding interpolation values_at when◌then◌else◌
-returns-then-h c = rw (le-ltb _ _ c.if-n-gt-MAX_N.false, eq-eqb _ _ c.if-cont-n.false, c.if-h.true)
-
-pub returns-then-n-eq0 : goal.returns-then-n-eq0
-unfolding interpolation values_at when◌then◌else◌
-returns-then-n-eq0 c = let if1 = c.if-n-gt-MAX_N in
-    let if2 = c.if-cont-n in
-    let if3 = c.if-h in
-    rw (le-ltb _ _ if1.false, eq-eqb _ _ if2.false, if3.false, eq-eqb _ _ c.if-n-eq0.true)
-
-pub values_by_order-requires : goal.values_by_order-requires
-values_by_order-requires c = let if2 = c.if-cont-n in
-    (rw c.order_of-order.ensures (order_at_most_5 _), if2.false)
+returns-then-h c =
+    let few = le-ltb _ _ c.if-n-gt-MAX_N.false in
+    let long = eq-eqb _ _ c.if-cont-n.false in
+    elim c.then-h.either [
+      | inl still ↦ rw (few, long, still)
+      | inr none ↦ rw (few, long, none.0, eq-eqb _ _ none.1)
+    ]
 
 pub returns : goal.returns
 unfolding interpolation values_at when◌then◌else◌
-returns c = let if1 = c.if-n-gt-MAX_N in
-    let if2 = c.if-cont-n in
-    let if3 = c.if-h in
-    let if4 = c.if-n-eq0 in
-    let order-of = c.order_of-order in
-    let values-by-order = c.values_by_order in
-    rw (le-ltb _ _ if1.false, eq-eqb _ _ if2.false, if3.false, ne_eqb _ _ if4.false, values-by-order.ensures, order-of.ensures)
+returns c =
+    rw (
+      le-ltb _ _ c.if-n-gt-MAX_N.false,
+      eq-eqb _ _ c.if-cont-n.false,
+      c.if-h.false,
+      ne_eqb _ _ c.if-n-eq0.false,
+      c.values_at.ensures,
+      c.order_of-order.ensures,
+    )

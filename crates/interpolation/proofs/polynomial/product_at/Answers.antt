@@ -9,6 +9,6 @@ pub returns-then-k-eq0 : goal.returns-then-k-eq0
 unfolding product_at
 returns-then-k-eq0 c = sym (when_true _ _ (eq-eqb _ _ c.if-k-eq0.true))
 
-pub returns : goal.returns
+pub returns-else-k-eq0 : goal.returns-else-k-eq0
 unfolding product_at
-returns c = sym (when_false _ _ (ne_eqb _ _ c.if-k-eq0.false))
+returns-else-k-eq0 c = sym (when_false _ _ (ne_eqb _ _ c.if-k-eq0.false))

@@ -5,7 +5,7 @@ use Rattle.interpolation.specs.Interpolate.{sum_turn}
 use Rattle.interpolation.proofs.polynomial.sum_at.Given as goal
 
 abbrev pub invariant-loop-k : goal.invariant-loop-k
-invariant-loop-k l = Turned 0 l.order (sum_turn l.cont l.p (l.i * 7)) l.initial.sum l.k l.sum
+invariant-loop-k g l = Turned 0 g.row.ORDER (sum_turn l.cont l.p (l.i * 7)) l.initial.sum l.k l.sum
 
 abbrev pub decreases-loop-k : goal.decreases-loop-k
-decreases-loop-k l = l.order - l.k
+decreases-loop-k g l = g.row.ORDER - l.k

@@ -4,4 +4,4 @@ use Rattle.job.proofs.form.form_of.Goals as goal
 
 pub returns : goal.returns
 unfolding form_of
-returns c = rw (c.word-x0.ensures, c.word-xend.ensures, c.word-first_step.ensures, c.word-rtol.ensures, c.word-atol.ensures)
+returns c = rw (c.word.ensures, c.word-2.ensures, c.word-3.ensures, c.word-4.ensures, c.word-5.ensures)

@@ -1,29 +1,23 @@
 -- `packed::word` meets its contract: the caller's bytes reach as far as the word, so there is one. Assumes nothing.
-use mathlib.Core.Path.{◌≡◌}
-use mathlib.Core.List.{List}
-use Prim.Native.Nat.{ℕ, ◌+◌, ◌≤◌}
-use native.Mathlib.Omega.{arith}
-use lib.ListN.{length}
-use borrow.Author.Tests.{le-leb}
+use Rattle.std.specs.Prelude.{◌≡◌, List, ℕ, ◌+◌, ◌≤◌, length, Some}
+use Rattle.std.proofs.Common.{arith, le-leb}
 use Rattle.loops.specs.laws.ChoiceLaws.{when_true}
-use Rattle.text.specs.declared.word.Word.{Word}
-use Rattle.text.specs.declared.word.Word.TheVariants.{Is, Short}
 use Rattle.text.specs.Words.{word_at, word_from}
+use Rattle.job.specs.Packed.{place}
 use Rattle.job.proofs.packed.word.Goals as goal
 
-module _ (s : List ℕ) (at : ℕ) (there : at + 8 ≤ length s) where
-  is_there : word_at s at ≡ Is (word_from s at)
-  unfolding word_at
-  is_there = when_true _ _ (le-leb (at + 8) (length s) there)
+is_there : (s : List ℕ) (at : ℕ) → at + 8 ≤ length s → word_at s at ≡ Some (word_from s at)
+unfolding word_at
+is_there s at there = when_true _ _ (le-leb (at + 8) (length s) there)
 
-  the_word : {r : Word} {w : ℕ} → r ≡ word_at s at → r ≡ Is w → w ≡ word_from s at
-  the_word e f = let g = is_there in cc
+pub unwrap-requires : goal.unwrap-requires
+unwrap-requires c =
+    let there = is_there c.args.s.now (place c.args.i) (omega arith) in
+    rw (c.word_at.ensures, there)
 
-  not_short : {r : Word} → r ≡ word_at s at → r ≡ Short → 0 ≡ word_from s at
-  not_short e f = let g = is_there in let z : ◌≡◌ {A = ℕ} 0 1 = cc in absurd (omega arith)
-
-pub returns-in-Is : goal.returns-in-Is
-returns-in-Is c = the_word _ _ (omega arith) c.word_at.ensures c.in-Is.is
-
-pub returns-in-Short : goal.returns-in-Short
-returns-in-Short c = not_short _ _ (omega arith) c.word_at.ensures c.in-Short.is
+pub returns : goal.returns
+returns c =
+    let there = is_there c.args.s.now (place c.args.i) (omega arith) in
+    let same = c.unwrap.ensures in
+    let asked = c.word_at.ensures in
+    cc

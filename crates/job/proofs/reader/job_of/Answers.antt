@@ -4,4 +4,4 @@ use Rattle.job.proofs.reader.job_of.Goals as goal
 
 pub returns : goal.returns
 unfolding job_of
-returns c = rw (c.double-x0.ensures, c.double-xend.ensures, c.double-rtol.ensures, c.double-atol.ensures, c.first_step-first_step.ensures)
+returns c = rw (c.double.ensures, c.double-2.ensures, c.double-3.ensures, c.double-4.ensures, c.first_step.ensures)

@@ -1,51 +1,41 @@
--- `reader::read` meets its contract: a form that was read has at most as many components as the arrays hold, and its file is long enough
--- for y0 and A (`served`). Assumes nothing.
-use mathlib.Core.Path.{◌≡◌, sym, ap, ◌∙◌}
-use mathlib.Core.List.{List, ◌++◌}
-use Prim.Native.Nat.{ℕ, ◌+◌, ◌*◌}
-use native.Mathlib.Omega.{arith}
-use lib.ListN.{drop}
-use lib.Ieee.{Float}
-use Rattle.loops.specs.Refusal.{gives, refuses}
+-- `reader::read` meets its contract: what was read is the form that the file says, by its values. Assumes nothing.
+use Rattle.std.specs.Prelude.{◌≡◌, List, ℕ, Float, Result, Ok, Err}
+use Rattle.std.proofs.Common.{refl, ap, subst, ◌∙◌}
+use Rattle.std.proofs.lemmas.Result.{err_from_is_err_and}
+use Rattle.loops.specs.Refusal.{Outcome, gives, refuses}
 use Rattle.job.specs.declared.form.Form.{Form}
-use Rattle.job.specs.declared.form.FormReading.{FormReading}
-use Rattle.job.specs.declared.form.FormReading.TheVariants.{Read, Refused}
+use Rattle.job.specs.declared.form.ReadError.{ReadError}
 use Rattle.job.specs.declared.reader.Job.{Job}
-use Rattle.job.specs.Packed.{doubles_of}
-use Rattle.job.specs.Reading.{ReadOutcome, form_read, form_reading_of, job_of, placed, read_of}
-use Rattle.job.proofs.Serving.{served, square}
+use Rattle.job.specs.Packed.{value_of}
+use Rattle.job.specs.Reading.{read_number, form_read, form_reading_of, reading_of, job_of, placed_as, ReadOutcome, placed, read_of}
 use Rattle.job.proofs.reader.read.Goals as goal
 
-module _ (s : List ℕ) {r : FormReading} (is : form_reading_of r ≡ form_read s) where
-  module _ (y0 a : List Float) where
-    a_job :
-        (f : Form) {j : Job} {y b : List Float} → r ≡ Read f → y ≡ doubles_of s 5 f.n ++ drop f.n y0 →
-        b ≡ doubles_of s (5 + f.n) (f.n * f.n) ++ drop (f.n * f.n) a → j ≡ job_of f → ◌≡◌ {A = ReadOutcome} (gives j, y, b) (read_of s y0 a)
-    unfolding read_of
-    a_job f e p q g = rw (p, q, g) (ap (λ o. placed s o y0 a) (sym (ap form_reading_of e) ∙ is))
+meant : Outcome Form → Outcome Job
+meant (gives f) = gives (job_of f)
+meant (refuses number) = refuses number
 
-    a_refusal : (number : ℕ) → r ≡ Refused number → ◌≡◌ {A = ReadOutcome} (refuses number, y0, a) (read_of s y0 a)
-    unfolding read_of
-    a_refusal number e = ap (λ o. placed s o y0 a) (sym (ap form_reading_of e) ∙ is)
+-- what was read of a file's values
+abbrev Values : Type 0
+Values = Outcome Form × List Float × List Float
 
-pub doubles-requires : goal.doubles-requires
-doubles-requires c =
-    let h = served _ c.form_read.ensures _ c.in-Read.is in
-    (omega (arith, h.few, h.long), omega (arith, h.few))
+by_values : (s : List ℕ) (o : Outcome Form) (y0 a : List Float) {p : Values} → p ≡ placed_as value_of s o y0 a → ◌≡◌ {A = ReadOutcome} (meant p.0, p.1, p.2) (placed s o y0 a)
+unfolding meant
+by_values s (gives f) y0 a e = rw e refl
+by_values s (refuses number) y0 a e = rw e refl
 
-pub overflow_add-n : goal.overflow_add-n
-overflow_add-n c = omega (arith, (served _ c.form_read.ensures _ c.in-Read.is).few)
+module _ (s : List ℕ) (y0 a : List Float) {r : Result Form ReadError} {y b : List Float} (is : ◌≡◌ {A = Values} (form_reading_of r, y, b) (placed_as value_of s (form_read s) y0 a)) where
+  a_job : {f : Form} {j : Job} → r ≡ Ok f → j ≡ job_of f → ◌≡◌ {A = ReadOutcome} (gives j, y, b) (read_of s y0 a)
+  unfolding read_of meant
+  a_job e g = rw g (subst (λ (x : Result Form ReadError). ◌≡◌ {A = ReadOutcome} (meant (form_reading_of x), y, b) (placed s (form_read s) y0 a)) e (by_values s (form_read s) y0 a is))
 
-pub overflow_mul-n : goal.overflow_mul-n
-overflow_mul-n c = omega (arith, square _ c.form_read.ensures _ c.in-Read.is)
+  a_refusal : {why : ReadError} {t : Result Job ReadError} → r ≡ Err why → t ≡ Err why → ◌≡◌ {A = ReadOutcome} (reading_of t, y, b) (read_of s y0 a)
+  unfolding read_of meant
+  a_refusal e g = rw g (subst (λ (x : Result Form ReadError). ◌≡◌ {A = ReadOutcome} (meant (form_reading_of x), y, b) (placed s (form_read s) y0 a)) e (by_values s (form_read s) y0 a is))
 
-pub doubles-requires-in-Read : goal.doubles-requires-in-Read
-doubles-requires-in-Read c =
-    let h = served _ c.form_read.ensures _ c.in-Read.is in
-    (omega (arith, h.long), omega (arith, square _ c.form_read.ensures _ c.in-Read.is))
+pub returns-in_err-placed : goal.returns-in_err-placed
+returns-in_err-placed c =
+    let h = err_from_is_err_and c.from_residual.result c.from_residual.ensures.1 in
+    a_refusal _ _ _ c.placed.ensures c.in_err-placed.was (h.1 ∙ ap Err h.2)
 
-pub returns-in-Read : goal.returns-in-Read
-returns-in-Read c = a_job _ c.form_read.ensures _ _ _ c.in-Read.is c.doubles.ensures c.doubles-in-Read.ensures c.job_of.ensures
-
-pub returns-in-Refused : goal.returns-in-Refused
-returns-in-Refused c = a_refusal _ c.form_read.ensures _ _ _ c.in-Refused.is
+pub returns : goal.returns
+returns c = a_job _ _ _ c.placed.ensures c.in_ok-placed.was c.job_of.ensures

@@ -9,6 +9,8 @@ use lib.ListN.{length}
 use lib.Ieee.{Float}
 use borrow.Author.Tests.{leb-true, eqb-true}
 use Rattle.loops.specs.laws.ChoiceLaws.{when_true, when_false, and_first, and_second}
+use Rattle.std.specs.Prelude.{Result, Ok, Err}
+use Rattle.job.specs.declared.right.WrongLength.{WrongLength}
 use Rattle.job.specs.Types.{max_n}
 use Rattle.job.specs.Right.{sized_of, right_of, right_side_of}
 use Rattle.job.proofs.right.right_side.Goals as goal
@@ -22,11 +24,11 @@ sized_means n cells places t =
     )
 
 module _ (a y dy : List Float) {r : Bool} (e : r ≡ sized_of (length y) (length a) (length dy)) where
-  wrong_sizes : r ≡ false → ◌≡◌ {A = Bool × List Float} (false, dy) (right_side_of a y dy)
+  wrong_sizes : r ≡ false → ◌≡◌ {A = Result Unit WrongLength × List Float} (Err (record {}), dy) (right_side_of a y dy)
   unfolding right_side_of
   wrong_sizes t = sym (when_false _ _ (sym e ∙ t))
 
-  right_sizes : {d : List Float} → r ≡ true → d ≡ right_of a y dy → ◌≡◌ {A = Bool × List Float} (true, d) (right_side_of a y dy)
+  right_sizes : {d : List Float} → r ≡ true → d ≡ right_of a y dy → ◌≡◌ {A = Result Unit WrongLength × List Float} (Ok tt, d) (right_side_of a y dy)
   unfolding right_side_of
   right_sizes t f = rw f (sym (when_true _ _ (sym e ∙ t)))
 

@@ -1,7 +1,7 @@
 -- `writer::begun` meets its contract: the code's tests are those that the beginning's checks come to (`begun_by_tests`), in their order.
 -- Assumes nothing.
-use mathlib.Core.Path.{◌≡◌, sym, ◌∙◌}
-use mathlib.Core.Bool.{true, false, ◌||◌}
+use mathlib.Core.Path.{◌≡◌, refl, sym, ◌∙◌}
+use mathlib.Core.Bool.{Bool, true, false, not, ◌||◌}
 use Prim.Native.Nat.{ℕ, zero, suc, ◌<◌, ◌≤◌}
 use native.Mathlib.Omega.{arith}
 use lib.Dec.{ltb}
@@ -17,6 +17,15 @@ use Rattle.job.specs.Reading.{job_of}
 use Rattle.job.specs.Writing.{begins_of, begun_of}
 use Rattle.job.specs.laws.BeginLaws.{begun_of_nothing, begun_by_tests}
 use Rattle.job.proofs.writer.begun.Goals as goal
+use Rattle.job.proofs.writer.begun.Goals.{then-double-via-then-double, then-double-via-else-double+then-double-2, then-f-gt1000000-via-then-f-gt1000000, then-f-gt1000000-via-else-f-gt1000000+then-f-gt64, else-not-f-via-then-not-f+else-double-3, else-not-f-via-else-not-f}
+
+not_set : {b : Bool} → not b ≡ true → b ≡ false
+not_set {b = true} e = sym e
+not_set {b = false} e = refl
+
+set : {b : Bool} → not b ≡ false → b ≡ true
+set {b = true} e = refl
+set {b = false} e = sym e
 
 positive : (n : ℕ) → (n ≡ 0 → ⊥) → 0 < n
 positive zero h = absurd (h (omega arith))
@@ -80,25 +89,37 @@ pub returns-then-f-eq0 : goal.returns-then-f-eq0
 returns-then-f-eq0 c = sym (begun_of_nothing _ _ c.if-f-eq0.true)
 
 pub returns-then-double : goal.returns-then-double
-returns-then-double c = negative_rtol _ _ c.if-f-eq0.false c.double.ensures c.if-double.true
-
-pub returns-then-double-2 : goal.returns-then-double-2
-returns-then-double-2 c = negative_atol _ _ c.if-f-eq0.false c.double.ensures c.if-double.false c.double-2.ensures c.if-double-2.true
+returns-then-double c =
+    elim c.then-double.branch [
+      | then-double-via-then-double w ↦ negative_rtol _ _ c.if-f-eq0.false c.double.ensures w.if-double.true
+      | then-double-via-else-double+then-double-2 w ↦
+          negative_atol _ _ c.if-f-eq0.false c.double.ensures w.if-double.false w.double-else-double.ensures w.if-double-2.true
+    ]
 
 pub returns-then-f-eq0-2 : goal.returns-then-f-eq0-2
-returns-then-f-eq0-2 c = no_steps _ _ c.if-f-eq0.false c.double.ensures c.if-double.false c.double-2.ensures c.if-double-2.false c.if-f-eq0-2.true
+returns-then-f-eq0-2 c = no_steps _ _ c.if-f-eq0.false c.double.ensures c.if-double.false c.double-else-double.ensures c.if-double-2.false c.if-f-eq0-2.true
 
 pub returns-then-f-gt1000000 : goal.returns-then-f-gt1000000
-returns-then-f-gt1000000 c = many_steps _ _ c.if-f-eq0.false c.double.ensures c.if-double.false c.double-2.ensures c.if-double-2.false c.if-f-eq0-2.false c.if-f-gt1000000.true
-
-pub returns-then-f-gt64 : goal.returns-then-f-gt64
-returns-then-f-gt64 c = many_turns _ _ c.if-f-eq0.false c.double.ensures c.if-double.false c.double-2.ensures c.if-double-2.false c.if-f-eq0-2.false c.if-f-gt1000000.false c.if-f-gt64.true
-
-pub returns-then-f : goal.returns-then-f
-returns-then-f c = automatic _ _ c.if-f-eq0.false c.double.ensures c.if-double.false c.double-2.ensures c.if-double-2.false c.if-f-eq0-2.false c.if-f-gt1000000.false c.if-f-gt64.false c.if-f.true
+returns-then-f-gt1000000 c =
+    elim c.then-f-gt1000000.branch [
+      | then-f-gt1000000-via-then-f-gt1000000 w ↦
+          many_steps _ _ c.if-f-eq0.false c.double.ensures c.if-double.false c.double-else-double.ensures c.if-double-2.false c.if-f-eq0-2.false w.if-f-gt1000000.true
+      | then-f-gt1000000-via-else-f-gt1000000+then-f-gt64 w ↦
+          many_turns _ _ c.if-f-eq0.false c.double.ensures c.if-double.false c.double-else-double.ensures c.if-double-2.false c.if-f-eq0-2.false w.if-f-gt1000000.false w.if-f-gt64.true
+    ]
 
 pub returns-then-double-3 : goal.returns-then-double-3
-returns-then-double-3 c = zero_first _ _ c.if-f-eq0.false c.double.ensures c.if-double.false c.double-2.ensures c.if-double-2.false c.if-f-eq0-2.false c.if-f-gt1000000.false c.if-f-gt64.false c.if-f.false c.double-3.ensures c.if-double-3.true
+returns-then-double-3 c =
+    zero_first _ _ c.if-f-eq0.false c.double.ensures c.if-double.false c.double-else-double.ensures c.if-double-2.false c.if-f-eq0-2.false c.if-f-gt1000000.false c.if-f-gt64.false
+    (not_set c.if-not-f.true) c.double-then-not-f.ensures c.if-double-3.true
 
 pub returns : goal.returns
-returns c = passes _ _ c.if-f-eq0.false c.double.ensures c.if-double.false c.double-2.ensures c.if-double-2.false c.if-f-eq0-2.false c.if-f-gt1000000.false c.if-f-gt64.false c.if-f.false c.double-3.ensures c.if-double-3.false
+returns c =
+    elim c.else-not-f.branch [
+      | else-not-f-via-then-not-f+else-double-3 w ↦
+          passes _ _ c.if-f-eq0.false c.double.ensures c.if-double.false c.double-else-double.ensures c.if-double-2.false c.if-f-eq0-2.false c.if-f-gt1000000.false c.if-f-gt64.false
+          (not_set w.if-not-f.true) w.double-then-not-f.ensures w.if-double-3.false
+      | else-not-f-via-else-not-f w ↦
+          automatic _ _ c.if-f-eq0.false c.double.ensures c.if-double.false c.double-else-double.ensures c.if-double-2.false c.if-f-eq0-2.false c.if-f-gt1000000.false c.if-f-gt64.false
+          (set w.if-not-f.false)
+    ]

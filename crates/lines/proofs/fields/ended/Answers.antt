@@ -1,7 +1,7 @@
--- `fields::ended` meets its contract: the status by its number, then h. Assumes nothing.
+-- `fields::ended` meets its contract: the status by its number, then h.
 use Rattle.lines.specs.Fields.{puts_fields}
 use Rattle.lines.proofs.fields.ended.Goals as goal
 
-pub returns : goal.returns
+pub returns-clause-put : goal.returns-clause-put
 unfolding puts_fields
-returns c = rw (← c.status.ensures, ← c.count-at.ensures) c.double.ensures
+returns-clause-put c = rw (← c.status.ensures, ← c.field.ensures.put) c.field-2.ensures.put

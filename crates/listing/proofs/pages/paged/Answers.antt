@@ -1,5 +1,5 @@
 -- `pages::paged` meets its contract: the page of the filled sheet. Assumes nothing.
-use mathlib.Core.Path.{ap}
+use Rattle.std.proofs.Common.{ap}
 use Rattle.listing.specs.Pages.{paged_of}
 use Rattle.listing.proofs.pages.paged.Goals as goal
 

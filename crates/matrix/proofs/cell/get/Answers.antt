@@ -1,7 +1,6 @@
 -- `cell::get` meets its contract: a cell of n rows of n lies among their n * n numbers, so its place neither wraps nor leaves
 -- the slice. Assumes nothing.
 use native.Mathlib.Omega.{arith}
-use borrow.Author.Rules.{rules}
 use Rattle.loops.specs.laws.RowLaws.{inside}
 use Rattle.matrix.proofs.cell.get.Goals as goal
 
@@ -13,6 +12,3 @@ overflow_add-result c = omega (arith, inside c.requires.0 c.requires.1)
 
 pub bounds-a-r : goal.bounds-a-r
 bounds-a-r c = omega (arith, inside c.requires.0 c.requires.1)
-
-pub returns : goal.returns
-returns c = search rules

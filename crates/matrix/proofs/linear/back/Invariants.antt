@@ -7,7 +7,7 @@ use Rattle.matrix.specs.Linear.{back_turn}
 use Rattle.matrix.proofs.linear.back.Given as goal
 
 abbrev pub invariant-loop-kb : goal.invariant-loop-kb
-invariant-loop-kb l = (length l.b ≡ l.n) × Turned 1 l.n (back_turn l.n l.a) l.initial.b l.kb l.b
+invariant-loop-kb l = (length l.b ≡ l.a.n) × Turned 1 l.a.n (back_turn l.a.n l.a.cells.now) l.initial.b l.kb l.b
 
 abbrev pub decreases-loop-kb : goal.decreases-loop-kb
-decreases-loop-kb l = l.n - l.kb
+decreases-loop-kb l = l.a.n - l.kb

@@ -4,4 +4,4 @@ use Rattle.matrix.proofs.linear.divide.Goals as goal
 
 pub returns : goal.returns
 unfolding divided_of
-returns c = rw c.get.ensures
+returns c = rw c.at.ensures

@@ -3,6 +3,7 @@
 use mathlib.Core.Path.{◌≡◌, sym, ◌∙◌}
 use mathlib.Core.Bool.{Bool, true, false, ◌&&◌}
 use mathlib.Core.List.{List}
+use Rattle.std.proofs.Common.{inl, inr}
 use Prim.Native.Nat.{ℕ}
 use native.Mathlib.Omega.{arith}
 use lib.ListN.{length}
@@ -44,10 +45,11 @@ module _ (a b : List Float) (ip : List ℕ) where
     solved {s} f u g = rw g (sym (when_true _ _ right_sizes ∙ when_true _ _ (sym f ∙ u)))
 
 pub returns-then-not-sized : goal.returns-then-not-sized
-returns-then-not-sized c = wrong_matrix _ _ _ c.sized.ensures c.if-not-sized.true
-
-pub returns-then-b-n : goal.returns-then-b-n
-returns-then-b-n c = wrong_side _ _ _ c.if-b-n.true
+returns-then-not-sized c =
+    elim c.then-not-sized.either [
+      | inl matrix ↦ wrong_matrix _ _ _ c.sized.ensures matrix
+      | inr side ↦ wrong_side _ _ _ side.1
+    ]
 
 pub pivots_inside-requires : goal.pivots_inside-requires
 pivots_inside-requires c = let s = sized_means _ _ (sym c.sized.ensures ∙ c.if-not-sized.false) in omega arith
@@ -57,11 +59,14 @@ returns-then-not-pivots_inside c = let the-sized = c.sized in
     let first-test = c.if-not-sized in
     pivot_outside_lem _ _ _ the-sized.ensures first-test.false c.if-b-n.false c.pivots_inside.ensures c.if-not-pivots_inside.true
 
+pub invariant_of-square : goal.invariant_of-square
+invariant_of-square c = record { whole = (sized_means _ _ (sym c.sized.ensures ∙ c.if-not-sized.false)).square }
+
 pub solve-requires : goal.solve-requires
 solve-requires c = let the-sized = c.sized in
     let first-test = c.if-not-sized in
     let s = sized_means _ _ (sym the-sized.ensures ∙ first-test.false) in
-    (omega arith, omega arith, omega arith, omega arith, each_inside _ _ (sym c.pivots_inside.ensures ∙ c.if-not-pivots_inside.false))
+    (omega arith, omega arith, omega arith, each_inside _ _ (sym c.pivots_inside.ensures ∙ c.if-not-pivots_inside.false))
 
 pub returns : goal.returns
 returns c = let the-sized = c.sized in

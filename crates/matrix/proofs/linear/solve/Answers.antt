@@ -15,7 +15,7 @@ in_order n a ip b d e f e₁ e₂ e₃ = e₃ ∙ rw (e₂, e₁)
 
 pub forward-requires : goal.forward-requires
 forward-requires c = let asked = c.requires in
-    (omega arith, omega arith, omega arith, omega arith, asked.4)
+    (omega arith, omega arith, omega arith, asked.3)
 
 pub returns : goal.returns
 returns c = let the-forward = c.forward in

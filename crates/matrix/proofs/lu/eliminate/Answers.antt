@@ -27,26 +27,6 @@ pub loop-j-init : goal.loop-j-init
 loop-j-init c =
     (omega arith, c.requires.3, turn_none (omega arith), c.requires.6)
 
-pub get-t-requires : goal.get-t-requires
-get-t-requires c =
-    omega arith
-
-pub get-x-requires : goal.get-x-requires
-get-x-requires c =
-    omega arith
-
-pub added-y-requires : goal.added-y-requires
-added-y-requires c =
-    omega arith
-
-pub put-requires : goal.put-requires
-put-requires c =
-    omega arith
-
-pub loop-j-smaller : goal.loop-j-smaller
-loop-j-smaller c =
-    omega arith
-
 pub loop-j-preserved : goal.loop-j-preserved
 loop-j-preserved c = let given = c.args in
     let at-loop = c.loop-j in
@@ -56,10 +36,6 @@ loop-j-preserved c = let given = c.args in
       turn_more at-loop.invariant.2 within (turned _ _ _ _ _ _ at-loop.invariant.1 c.get-t.ensures c.get-x.ensures c.added-y.ensures c.put.ensures),
       zeros_stay given.n given.k given.i at-loop.j given.end at-loop.a _ c.added-y.result (omega arith) within at-loop.invariant.3 c.put.ensures,
     )
-
-pub shape_of-a : goal.shape_of-a
-shape_of-a c =
-    omega arith
 
 pub returns : goal.returns
 returns c = let at-loop = c.loop-j in

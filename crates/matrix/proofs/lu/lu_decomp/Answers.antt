@@ -5,7 +5,7 @@ use mathlib.Core.Bool.{Bool, true, false}
 use mathlib.Core.List.{List}
 use Prim.Native.Nat.{ℕ, ◌-◌, ◌*◌}
 use native.Mathlib.Omega.{arith}
-use lib.ListN.{length, set, length-set}
+use lib.ListN.{length, set}
 use lib.Ieee.{Float, eq}
 use borrow.Author.Tests.{eq-eqb, ne_eqb}
 use Rattle.loops.specs.laws.ChoiceLaws.{when_true, when_false}
@@ -57,9 +57,6 @@ pub returns-then-a : goal.returns-then-a
 returns-then-a c = let the-sized = c.sized in
     let first-test = c.if-not-sized in
     single_zero _ _ the-sized.ensures first-test.false c.if-n-eq1.true c.if-a.true
-
-pub shape_of-ip-then-n-eq1 : goal.shape_of-ip-then-n-eq1
-shape_of-ip-then-n-eq1 c = simp length-set
 
 pub returns-then-n-eq1 : goal.returns-then-n-eq1
 returns-then-n-eq1 c = let the-sized = c.sized in

@@ -30,12 +30,12 @@ module _ (n : ℕ) (a : List Float) (k i m : ℕ) {max val : Float} (held : max 
   passed t = sym (when_false _ _ (sym tested ∙ t))
 
 pub loop-i-init : goal.loop-i-init
-loop-i-init c = (omega arith, c.magnitude-max_val.ensures ∙ ap magnitude_of c.get.ensures, turn_none (omega arith))
+loop-i-init c = (omega arith, c.magnitude-max_val.ensures ∙ ap magnitude_of c.at.ensures, turn_none (omega arith))
 
 pub loop-i-preserved : goal.loop-i-preserved
 loop-i-preserved c = let at-loop = c.loop-i in
     let turn = c.loop-i-test in
-    let met = c.magnitude-val.ensures ∙ ap magnitude_of c.get-in-loop-i.ensures in
+    let met = c.magnitude-val.ensures ∙ ap magnitude_of c.at-in-loop-i.ensures in
     elim c.if-val-max_val.branch [
       | then-val-max_val w ↦ rw (w.m-is, w.max_val-is) (omega arith, met, turn_more at-loop.invariant.2 turn.true (taken _ _ _ _ _ at-loop.invariant.1 met w.if-val-max_val.true))
       | else-val-max_val w ↦

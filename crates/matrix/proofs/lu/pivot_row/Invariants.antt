@@ -10,7 +10,7 @@ use Rattle.matrix.proofs.lu.pivot_row.Given as goal
 
 abbrev pub invariant-loop-i : goal.invariant-loop-i
 invariant-loop-i l =
-    (l.m < l.n) × (l.max_val ≡ magnitude_of (cell l.n l.a l.m l.k)) × Turned (l.k + 1) l.n (pivot_turn l.n l.a l.k) (l.k, abs_of (cell l.n l.a l.k l.k)) l.i (l.m, abs_of (cell l.n l.a l.m l.k))
+    (l.m < l.a.n) × (l.max_val ≡ magnitude_of (cell l.a.n l.a.cells.now l.m l.k)) × Turned (l.k + 1) l.a.n (pivot_turn l.a.n l.a.cells.now l.k) (l.k, abs_of (cell l.a.n l.a.cells.now l.k l.k)) l.i (l.m, abs_of (cell l.a.n l.a.cells.now l.m l.k))
 
 abbrev pub decreases-loop-i : goal.decreases-loop-i
-decreases-loop-i l = l.n - l.i
+decreases-loop-i l = l.a.n - l.i

@@ -1,10 +1,10 @@
 -- `matrix::lu::reach`: the invariant and the measure of its loop.
-use Prim.Native.Nat.{◌≤◌, ◌<◌}
+use Rattle.std.proofs.Common.{◌-◌}
 use Rattle.matrix.specs.Rows.{Zeros}
 use Rattle.matrix.proofs.lu.reach.Given as goal
 
-abbrev pub invariant-loop-end : goal.invariant-loop-end
-invariant-loop-end l = (l.k < l.end) × (l.end ≤ l.n) × Zeros l.n l.k l.end l.a
+abbrev pub invariant-loop-zeros : goal.invariant-loop-zeros
+invariant-loop-zeros l = Zeros l.a.n l.k (l.a.n - l.zeros) l.a.cells.now
 
-abbrev pub decreases-loop-end : goal.decreases-loop-end
-decreases-loop-end l = l.end
+abbrev pub decreases-loop-zeros : goal.decreases-loop-zeros
+decreases-loop-zeros l = l.a.n - l.zeros

@@ -25,21 +25,9 @@ turned : (n k i : ℕ) (a b d : List Float) (t : Float) {x : Float} → x ≡ ce
 unfolding row_turn scale_turn
 turned n k i a b d t e₁ e₂ e₃ = e₃ ∙ rw (e₂, e₁)
 
-pub reach-end-requires : goal.reach-end-requires
-reach-end-requires c =
-    omega arith
-
 pub loop-i-init : goal.loop-i-init
 loop-i-init c =
     (omega arith, turn_none (omega arith), c.reach-end.ensures.2)
-
-pub get-x-requires : goal.get-x-requires
-get-x-requires c =
-    omega arith
-
-pub put-requires : goal.put-requires
-put-requires c =
-    omega arith
 
 pub eliminate-requires : goal.eliminate-requires
 eliminate-requires c = let given = c.args in
@@ -53,17 +41,9 @@ eliminate-requires c = let given = c.args in
       zeros_stay given.n given.k at-loop.i given.k _ at-loop.a _ _ (omega arith) (omega arith) at-loop.invariant.2 c.put.ensures,
     )
 
-pub loop-i-smaller : goal.loop-i-smaller
-loop-i-smaller c =
-    omega arith
-
 pub loop-i-preserved : goal.loop-i-preserved
 loop-i-preserved c = let at-loop = c.loop-i in
     (omega arith, turn_more at-loop.invariant.1 c.loop-i-test.true (turned _ _ _ _ _ _ _ c.get-x.ensures c.put.ensures c.eliminate.ensures.0), c.eliminate.ensures.1)
-
-pub shape_of-a : goal.shape_of-a
-shape_of-a c =
-    omega arith
 
 pub returns : goal.returns
 returns c =

@@ -19,9 +19,6 @@ test x = eq x +0
 pub loop-k-init : goal.loop-k-init
 loop-k-init c = (omega arith, omega arith, omega arith, rw sub-zero)
 
-pub shape_of-ip-then-get : goal.shape_of-ip-then-get
-shape_of-ip-then-get c = simp length-set (omega arith)
-
 pub returns-then-get : goal.returns-then-get
 returns-then-get c = let at-loop = c.loop-k in
     let turn = c.loop-k-test in

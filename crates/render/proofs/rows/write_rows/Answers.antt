@@ -53,37 +53,11 @@ step t cont n k i count m out₀ out ys o tm a b room h same l r is len e =
 pub loop-i-init : goal.loop-i-init
 loop-i-init c = (refl, turn_none (omega arith))
 
-pub overflow_mul-a : goal.overflow_mul-a
-overflow_mul-a c =
-    let s = inside c.loop-i.i c.args.n _ _ c.loop-i-test.true c.requires.1.1.0 in
-    omega arith
-
-pub overflow_add-e : goal.overflow_add-e
-overflow_add-e c =
-    let s = inside c.loop-i.i c.args.n _ _ c.loop-i-test.true c.requires.1.1.0 in
-    omega arith
-
-pub slice_bounds-interpolate-start : goal.slice_bounds-interpolate-start
-slice_bounds-interpolate-start c =
-    let s = inside c.loop-i.i c.args.n _ _ c.loop-i-test.true c.requires.1.1.0 in
-    omega arith
-
-pub slice_bounds-interpolate-end : goal.slice_bounds-interpolate-end
-slice_bounds-interpolate-end c =
-    let s = inside c.loop-i.i c.args.n _ _ c.loop-i-test.true c.requires.1.1.0 in
-    omega arith
-
-pub interpolate-requires : goal.interpolate-requires
-interpolate-requires c = tt
-
 pub loop-i-preserved : goal.loop-i-preserved
 loop-i-preserved c =
     step c.args.notice c.args.cont.now c.args.n c.args.k c.loop-i.i c.args.count _ c.args.out.now c.loop-i.out c.interpolate.new.yi _ _
     c.requires.0 c.requires.1.0 c.requires.1.1.0 c.loop-i-test.true (cut (c.loop-i.i * c.args.n) c.args.n)
     c.loop-i.invariant.0 c.loop-i.invariant.1 c.time_of-t.ensures c.interpolate.auto.yi c.interpolate.ensures
-
-pub shape_of-out : goal.shape_of-out
-shape_of-out c = c.loop-i.invariant.0
 
 pub returns : goal.returns
 unfolding rows

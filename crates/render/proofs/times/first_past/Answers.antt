@@ -1,20 +1,18 @@
 -- `times::first_past`: what the code computes is at most 2 below the first k past x (`near`), and two comparisons settle which it is.
 -- Assumes nothing.
-use Rattle.std.specs.Prelude.{◌≡◌, true, false, ℕ, ◌≤◌, ◌<◌, T, Float}
-use Rattle.std.proofs.Common.{sym, ◌∙◌, subst, arith}
+use Rattle.std.specs.Prelude.{◌≡◌, true, false, ℕ, ◌-◌, ◌^◌, ◌≤◌, ◌<◌, Float}
+use Rattle.std.proofs.Common.{sym, ◌∙◌, arith}
 use Rattle.std.proofs.lemmas.Bool.{not-true, not-false}
 use Rattle.std.specs.Float.Ieee
 use Rattle.std.specs.Float.{binary64}
+use Rattle.loops.specs.Arithmetic.{+0}
 use Rattle.render.specs.Times.{time_of, past, within, first_past}
-use Rattle.render.specs.laws.Clock.{Good}
+use Rattle.render.specs.laws.Clock.{Good, good}
 use Rattle.render.specs.laws.EdgeLaws.{upto_is}
 use Rattle.render.specs.laws.PastLaws.{before_past, from_past, past_small}
 use Rattle.render.specs.laws.GuessLaw.{negative_past}
-use Rattle.render.specs.laws.NearLaw.{near}
+use Rattle.render.specs.laws.NearLaw.{Near, near}
 use Rattle.render.proofs.times.first_past.Goals as goal
-
-good : (x : Float) → Ieee.fits binary64 x ≡ true → within x ≡ true → Good x
-good x f w = record { fitting = subst T (sym f) tt; inside = w }
 
 -- what a comparison with a time says
 module _ (x : Float) (g : Good x) (k : ℕ) {t : Float} (is : t ≡ time_of k) where
@@ -24,58 +22,50 @@ module _ (x : Float) (g : Good x) (k : ℕ) {t : Float} (is : t ≡ time_of k) w
   from : Ieee.le t x ≡ false → first_past x ≤ k
   from e = from_past x k g (not-false (past x k) (sym (upto_is x k g) ∙ rw is at e))
 
+-- what is known of an x in range that is not below 0
+record Known (x : Float) : Type 0 where
+  good : Good x
+  near : Near x
+  small : first_past x ≤ 2 ^ 32 - 1
+
+known : (x : Float) → Ieee.fits binary64 x ≡ true → within x ≡ true → Ieee.lt x +0 ≡ false → Known x
+known x f w p = let g = good x f w in record { good = g; near = near x g p; small = past_small x g }
+
 pub returns-then-x : goal.returns-then-x
 returns-then-x c = sym (negative_past _ (good _ c.well_formed.0.1 c.requires) c.if-x.true)
 
 pub float_to_int-guess : goal.float_to_int-guess
-float_to_int-guess c = (near _ (good _ c.well_formed.0.1 c.requires) c.if-x.false).fits
+float_to_int-guess c = (known c.args.x c.well_formed.0.1 c.requires c.if-x.false).near.fits
 
 pub overflow_sub-guess : goal.overflow_sub-guess
-overflow_sub-guess c = (near _ (good _ c.well_formed.0.1 c.requires) c.if-x.false).least
+overflow_sub-guess c = (known c.args.x c.well_formed.0.1 c.requires c.if-x.false).near.least
 
 pub overflow_add-guess : goal.overflow_add-guess
-overflow_add-guess c =
-    let g = good _ c.well_formed.0.1 c.requires in
-    let n = near _ g c.if-x.false in
-    omega (arith, n.under, past_small _ g)
+overflow_add-guess c = let k = known c.args.x c.well_formed.0.1 c.requires c.if-x.false in omega arith
 
-pub time_of-next-requires : goal.time_of-next-requires
-time_of-next-requires c =
-    let g = good _ c.well_formed.0.1 c.requires in
-    let n = near _ g c.if-x.false in
-    omega (arith, n.under, past_small _ g)
+pub time_of-requires : goal.time_of-requires
+time_of-requires c = let k = known c.args.x c.well_formed.0.1 c.requires c.if-x.false in omega arith
 
 pub overflow_add-result : goal.overflow_add-result
-overflow_add-result c =
-    let g = good _ c.well_formed.0.1 c.requires in
-    let n = near _ g c.if-x.false in
-    omega (arith, n.under, past_small _ g)
+overflow_add-result c = let k = known c.args.x c.well_formed.0.1 c.requires c.if-x.false in omega arith
 
-pub returns-then-next-x : goal.returns-then-next-x
-returns-then-next-x c =
-    let g = good _ c.well_formed.0.1 c.requires in
-    let n = near _ g c.if-x.false in
-    omega (arith, n.over, before _ g _ c.time_of-next.ensures c.if-next-x.true)
+pub returns-then-time_of-x : goal.returns-then-time_of-x
+returns-then-time_of-x c =
+    let k = known c.args.x c.well_formed.0.1 c.requires c.if-x.false in
+    omega (arith, before _ k.good _ c.time_of.ensures c.if-time_of-x.true)
 
-pub time_of-here-requires : goal.time_of-here-requires
-time_of-here-requires c =
-    let g = good _ c.well_formed.0.1 c.requires in
-    let n = near _ g c.if-x.false in
-    omega (arith, n.under, past_small _ g)
+pub time_of-requires-2 : goal.time_of-requires-2
+time_of-requires-2 c = let k = known c.args.x c.well_formed.0.1 c.requires c.if-x.false in omega arith
 
-pub overflow_add-result-then-here-x : goal.overflow_add-result-then-here-x
-overflow_add-result-then-here-x c =
-    let g = good _ c.well_formed.0.1 c.requires in
-    let n = near _ g c.if-x.false in
-    omega (arith, n.under, past_small _ g)
+pub overflow_add-result-then-time_of-x-2 : goal.overflow_add-result-then-time_of-x-2
+overflow_add-result-then-time_of-x-2 c = let k = known c.args.x c.well_formed.0.1 c.requires c.if-x.false in omega arith
 
-pub returns-then-here-x : goal.returns-then-here-x
-returns-then-here-x c =
-    let g = good _ c.well_formed.0.1 c.requires in
-    omega (arith, from _ g _ c.time_of-next.ensures c.if-next-x.false, before _ g _ c.time_of-here.ensures c.if-here-x.true)
+pub returns-then-time_of-x-2 : goal.returns-then-time_of-x-2
+returns-then-time_of-x-2 c =
+    let k = known c.args.x c.well_formed.0.1 c.requires c.if-x.false in
+    omega (arith, from _ k.good _ c.time_of.ensures c.if-time_of-x.false, before _ k.good _ c.time_of-2.ensures c.if-time_of-x-2.true)
 
 pub returns : goal.returns
 returns c =
-    let g = good _ c.well_formed.0.1 c.requires in
-    let n = near _ g c.if-x.false in
-    omega (arith, n.under, from _ g _ c.time_of-here.ensures c.if-here-x.false)
+    let k = known c.args.x c.well_formed.0.1 c.requires c.if-x.false in
+    omega (arith, from _ k.good _ c.time_of-2.ensures c.if-time_of-x-2.false)

@@ -8,10 +8,6 @@ use Rattle.roots.specs.Numeral.{numeral, base}
 use Rattle.roots.proofs.power.NumeralLaws.{numeral_small, compare_digits}
 use Rattle.roots.proofs.power.at_most.Goals as goal
 
-pub loop-i-init : goal.loop-i-init
-unfolding numeral
-loop-i-init c = (omega arith, refl)
-
 pub loop-i-preserved : goal.loop-i-preserved
 unfolding numeral
 loop-i-preserved c =
@@ -25,3 +21,7 @@ loop-i-preserved c =
 
 pub returns : goal.returns
 returns c = let end : c.loop-i.i ≡ 14 = omega arith in rw end at c.loop-i.invariant.1
+
+pub loop-i-init : goal.loop-i-init
+unfolding numeral
+loop-i-init c = (omega arith, refl)

@@ -27,12 +27,12 @@ loop-preserved c =
     let product = ap (λ (v : ℕ). v * c.args.m) l.invariant.1.worth in
     (omega arith, record { row = c.times.ensures.0; worth = c.times.ensures.1 ∙ product ∙ sym (once_more _ _ _) })
 
-pub at_most-requires : goal.at_most-requires
-at_most-requires c = (c.loop.invariant.1.row, (one_digit c.args.t (omega arith)).row)
-
 pub returns : goal.returns
 returns c =
     let l = c.loop in
     let args = c.args in
     let end : l.counter ≡ args.k = omega arith in
     rw (← (one_digit args.t (omega arith)).worth, ← (rw end at l.invariant.1.worth)) c.at_most.ensures
+
+pub at_most-requires : goal.at_most-requires
+at_most-requires c = (c.loop.invariant.1.row, (one_digit c.args.t (omega arith)).row)

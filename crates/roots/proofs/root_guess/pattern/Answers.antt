@@ -5,11 +5,7 @@ use native.Mathlib.Omega.{arith}
 use lib.Dec.{T}
 use lib.Ieee.{binary64, to_bits}
 use lib.Ieee.Bits.{to_bits-lt}
-use Rattle.loops.specs.laws.FloatLaws.{is_number}
 use Rattle.roots.proofs.root_guess.pattern.Goals as goal
-
-pub float_to_bits-b : goal.float_to_bits-b
-float_to_bits-b c = is_number _ c.if-r.false
 
 pub overflow_add-field : goal.overflow_add-field
 overflow_add-field c = let b : to_bits binary64 c.args.r < 2 ^ 64 = to_bits-lt binary64 _ (subst T (sym c.well_formed.0.1) tt) in record { fits = omega arith }

@@ -57,8 +57,5 @@ overflow_mul-result-3 c = record { fits = product_fits (c.args.u % half) _ (omeg
 pub overflow_add-result : goal.overflow_add-result
 overflow_add-result c = record { fits = omega (arith, upper_fits c.args.u c.args.v c.ranges.u.fits c.ranges.v.fits) }
 
-pub overflow_add-result-2 : goal.overflow_add-result-2
-overflow_add-result-2 c = record { fits = upper_fits c.args.u c.args.v c.ranges.u.fits c.ranges.v.fits }
-
 pub returns : goal.returns
 returns c = is_high c.args.u c.args.v

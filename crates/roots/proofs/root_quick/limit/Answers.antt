@@ -1,11 +1,10 @@
--- `roots::root_quick::limit` meets its contract: the power of two that is given, if one is, has the places that are left. Assumes nothing.
+-- `roots::root_quick::limit` meets its contract: the power of two that is given has the places that are left. Assumes nothing.
 use mathlib.Core.Path.{◌≡◌, ◌∙◌}
 use Prim.Native.Nat.{ℕ, ◌+◌, ◌-◌, ◌*◌, ◌%◌, ◌^◌, ◌≤◌}
 use native.Mathlib.Nat.{one-mul}
 use native.Mathlib.Omega.{arith}
 use lib.Dec.{lit<}
 use lib.Pow.{shl_exact}
-use Rattle.roots.proofs.Scaling.{few_places}
 use Rattle.roots.specs.Quick.{LimitIs}
 use Rattle.roots.proofs.root_quick.QuickLaws.{limit_is}
 use Rattle.roots.proofs.root_quick.limit.Goals as goal
@@ -17,11 +16,5 @@ shifted k q g h l =
     let exact : (1 * 2 ^ w) % 2 ^ 64 ≡ 2 ^ w = shl_exact {a = 1} 1 w 64 (lit< tt) (omega arith) ∙ one-mul (2 ^ w) in
     rw exact (limit_is k q g w (omega arith))
 
-pub overflow_mul-used : goal.overflow_mul-used
-overflow_mul-used c = record { fits = omega (arith, few_places c.args.q c.args.k c.requires.1 c.requires.0) }
-
-pub overflow_add-used : goal.overflow_add-used
-overflow_add-used c = record { fits = omega (arith, few_places c.args.q c.args.k c.requires.1 c.requires.0) }
-
-pub returns : goal.returns
-returns c = λ _. shifted _ _ _ c.if-have-used.false c.if-have-used-gt63.false
+pub returns-then-have-used-lt64 : goal.returns-then-have-used-lt64
+returns-then-have-used-lt64 c = (omega arith, shifted _ _ _ c.if-used-have.true (omega (arith, c.if-have-used-lt64.true)))

@@ -30,15 +30,6 @@ loop-lo-init c = (
   omega arith,
 )
 
-pub between-b-requires : goal.between-b-requires
-between-b-requires c = (omega arith, omega arith)
-
-pub reaches-requires : goal.reaches-requires
-reaches-requires c = (c.requires, omega arith, omega arith)
-
-pub loop-lo-smaller : goal.loop-lo-smaller
-loop-lo-smaller c = elim c.if-reaches.branch [ then-reaches w ↦ omega arith | else-reaches w ↦ omega arith ]
-
 pub loop-lo-preserved : goal.loop-lo-preserved
 loop-lo-preserved c =
     let here = c.loop-lo.invariant.0 in

@@ -5,5 +5,5 @@ use Rattle.roots.proofs.units.units_of.Goals as goal
 pub returns-then-b-lt-HIDDEN : goal.returns-then-b-lt-HIDDEN
 returns-then-b-lt-HIDDEN c = scaled_small _ c.if-b-lt-HIDDEN.true
 
-pub returns : goal.returns
-returns c = scaled_normal _ c.if-b-lt-HIDDEN.false c.requires
+pub returns-else-b-lt-HIDDEN : goal.returns-else-b-lt-HIDDEN
+returns-else-b-lt-HIDDEN c = scaled_normal _ c.if-b-lt-HIDDEN.false c.requires

@@ -1,7 +1,6 @@
 -- `roots::whole_root::is_root` meets its contract: m is reached, and m + 1 is not.
 -- Assumes nothing.
 use mathlib.Core.Path.{sym, ◌∙◌}
-use mathlib.Core.Bool.{true≢false}
 use Prim.Native.Nat.{ℕ, ◌+◌, ◌*◌, ◌^◌, ◌≤◌, ◌<◌}
 use native.Mathlib.Omega.{arith}
 use borrow.Author.Tests.{ltb-true, ltb-false, not-true}
@@ -15,6 +14,3 @@ pub returns-then-reached : goal.returns-then-reached
 returns-then-reached c passed =
     between _ _ (ltb-true _ _ (sym c.reached.ensures ∙ c.if-reached.true))
     (ltb-false _ _ (sym c.reached-then-reached.ensures ∙ not-true _ passed))
-
-pub returns : goal.returns
-returns c passed = absurd (true≢false (sym passed))

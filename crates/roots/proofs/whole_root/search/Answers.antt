@@ -5,7 +5,7 @@ use mathlib.Core.Path.{◌≡◌, sym, ◌∙◌}
 use Prim.Native.Nat.{ℕ, ◌+◌, ◌*◌, ◌^◌, ◌≤◌, ◌<◌}
 use native.Mathlib.Nat.{mul-le-mul_right}
 use native.Mathlib.Omega.{arith}
-use borrow.Author.Tests.{ltb-true, ltb-false}
+use borrow.Author.Tests.{ltb-false}
 use Rattle.roots.specs.WholeRoot.{NearestWhole}
 use Rattle.roots.proofs.whole_root.search.Invariants.{Bracket}
 use Rattle.roots.proofs.whole_root.search.Goals as goal
@@ -24,11 +24,6 @@ pub loop-lo-init : goal.loop-lo-init
 loop-lo-init c =
     let range = whole_range c.args.n (2 ^ 52) (omega arith) c.requires.0 c.requires.1 in
     record { apart = omega arith; below = omega arith; reached = range.0; missed = range.1 }
-
-pub loop-lo-preserved-then-reached : goal.loop-lo-preserved-then-reached
-loop-lo-preserved-then-reached c =
-    let inv = c.loop-lo.invariant in
-    record { apart = omega arith; below = inv.below; reached = ltb-true _ _ (sym c.reached.ensures ∙ c.if-reached.true); missed = inv.missed }
 
 pub loop-lo-preserved : goal.loop-lo-preserved
 loop-lo-preserved c =

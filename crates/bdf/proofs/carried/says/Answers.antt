@@ -1,7 +1,0 @@
--- `carried::says`: its fields. Assumes nothing.
-use mathlib.Core.Path.{refl}
-use Rattle.bdf.proofs.carried.says.Goals as goal
-
-pub returns : goal.returns
-returns c =
-    λ pivot. refl
