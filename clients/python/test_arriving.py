@@ -1,9 +1,12 @@
 #!/usr/bin/env python3
 """What `replay` prints does not depend on how its words arrive, and it answers before it waits."""
+import os
+import pty
 import random
 import struct
 import subprocess
 import sys
+import termios
 import threading
 import unittest
 from pathlib import Path
@@ -63,6 +66,20 @@ class Arriving(unittest.TestCase):
             self.assertEqual(process.stdout.readline(), answer)
         process.stdin.close()
         self.assertEqual(process.stdout.read(), b"")
+
+    def test_a_read_that_gives_nothing_within_a_word(self):
+        """As at a terminal, where an end may be typed there: it is the end only if no more comes, and the rest of the word does."""
+        typed, end, case = pty.openpty(), b"\x04", words(1, 4.0)
+        self.addCleanup(os.close, typed[0])
+        flags = termios.tcgetattr(typed[1])
+        flags[0], flags[3] = 0, termios.ICANON
+        termios.tcsetattr(typed[1], termios.TCSANOW, flags)
+        process = subprocess.Popen(command(), stdin=typed[1], stdout=subprocess.PIPE)
+        os.close(typed[1])
+        self.addCleanup(process.wait)
+        self.addCleanup(process.kill)
+        os.write(typed[0], case[:12] + end + end + case[12:] + end + end)
+        self.assertEqual(process.communicate(timeout=30)[0], b"4000000000000000\n")
 
     def test_streams_that_are_none(self):
         """The answers before it, then X: a stream that ends within a case or within a word, and what is no kind."""

@@ -1,4 +1,6 @@
 // What a run is begun with, as its words give it: the settings, the two ends, and the tolerances.
+ghost use Rattle.std.specs.Prelude.{◌≤◌, length};
+
 use crate::run::Room;
 use crate::solver;
 use crate::solver::{BDF, Tolerance, Turn};
@@ -22,6 +24,7 @@ pub(crate) struct Config<'a> {
 struct Allowed<'a> {
     tolerance: Tolerance,
     entries: &'a [f64],
+    ghost few: { length entries.now ≤ 64 },
 }
 
 impl<'a> Config<'a> {

@@ -1,4 +1,6 @@
 // The reply that an answer calls for: values to a question, a word to a notice.
+ghost use Rattle.std.specs.Prelude.{◌≤◌, length};
+
 use crate::components::Components;
 use crate::solver::{Answer, Reply};
 use crate::words::Words;
@@ -10,6 +12,7 @@ pub(crate) const VALUES: usize = 1024;
 pub(crate) struct Replied<'a> {
     pub reply: Reply,
     pub values: &'a [f64],
+    ghost few: { length values.now ≤ 1024 },
 }
 
 pub(crate) fn read<'a>(
@@ -38,7 +41,9 @@ fn notice<'a>(words: &mut Words, n: Components, to: &'a mut [f64; VALUES]) -> Op
     }
 }
 
-fn valued<'a>(words: &mut Words, reply: Reply, values: &'a mut [f64]) -> Option<Replied<'a>> {
+fn valued<'a>(words: &mut Words, reply: Reply, values: &'a mut [f64]) -> Option<Replied<'a>>
+    requires { length values.old ≤ 1024 }
+{
     words.doubles(values)?;
     Some(Replied { reply, values })
 }

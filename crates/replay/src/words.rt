@@ -34,12 +34,20 @@ impl<'a> Words<'a> {
     // Where all that was read is taken, reads on. At the input's end nothing is left afterwards, or a part of a word.
     pub(crate) fn read_on(&mut self) {
         if self.are_used_up() {
-            let some = input::some(&mut self.from, self.buffer);
-            let missing = (8 - some % 8) % 8;
-            let rest = &mut self.buffer[some..];
-            let most = missing.min(rest.len());
-            self.end = some + input::full(&mut self.from, &mut rest[..most]);
+            self.end = input::some(&mut self.from, self.buffer);
             self.at = 0;
+            for _ in 0..7 {
+                self.read_one_more();
+            }
+        }
+    }
+
+    // One byte more, unless whole words stand there already. A read that gives nothing is no end of the input here: the next may give the rest
+    // of the word, as where a signal interrupts one, or a terminal ends a line.
+    fn read_one_more(&mut self) {
+        let end = self.end;
+        if end % 8 != 0 && end < self.buffer.len() {
+            self.end = end + input::full(&mut self.from, &mut self.buffer[end..end + 1]);
         }
     }
 
