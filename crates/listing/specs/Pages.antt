@@ -9,8 +9,7 @@ use Rattle.rules.specs.Answers.{is_question_or_notice}
 use Rattle.rules.specs.State.{After, after}
 use Rattle.rules.specs.Begin.{nothing}
 use Rattle.rules.specs.Calls.{beginning}
-use Rattle.job.specs.declared.form.ReadError.{ReadError}
-use Rattle.job.specs.Reading.{read_number, read_refusal, ReadOutcome, configuration_of}
+use Rattle.job.specs.Reading.{ReadOutcome, configuration_of}
 use Rattle.listing.specs.Types.{Ended, Run, Turn}
 use Rattle.listing.specs.Replies.{replied}
 use Rattle.listing.specs.Printed.{line_of, reading}
@@ -29,8 +28,8 @@ abbrev pub due_of : Turn → Listing
 due_of t = record { said = Told t.answer; run = t.run }
 
 -- the line of a file's refusal: there is no run, and its state is that of one with nothing to do, which has ended
-abbrev pub refused_of : ReadError → Listing
-refused_of why = record { said = NoJob why; run = record { awaited = Ended; at = nothing } }
+abbrev pub refused_of : ℕ → Listing
+refused_of number = record { said = NoJob number; run = record { awaited = Ended; at = nothing } }
 
 -- nothing more
 abbrev pub over_of : Run → Listing
@@ -47,7 +46,7 @@ begun_with g b a = (due_after g, when is_question_or_notice g.is.answer then b e
 
 abbrev pub opened_from : ReadOutcome → List Float → List Float → List Float → After Listing × List Float
 opened_from (gives job, y0, b) a ws q = begun_with (beginning (configuration_of job (take job.n y0)) ws q) b a
-opened_from (refuses number, y0, b) a ws q = (after (refused_of (read_refusal number)) ws q, a)
+opened_from (refuses number, y0, b) a ws q = (after (refused_of number) ws q, a)
 
 unfoldable pub opened : List ℕ → List Float → List Float → List Float → After Listing × List Float
 opened s a ws q = opened_from (reading s) a ws q
@@ -110,14 +109,14 @@ abbrev pub paged_of : UnderWay → Paged
 paged_of (s, out) = (after (given_of s.is) s.ws s.q, out)
 
 -- the page on which a file's refusal is put, and its bytes
-abbrev pub refused_at : ReadError → Run → Put → Page × List ℕ
-refused_at why run (Some length, out) = (page_of (over_of run) length, out)
-refused_at why run (None, out) = (page_of (record { said = NoJob why; run = run }) 0, out)
+abbrev pub refused_at : ℕ → Run → Put → Page × List ℕ
+refused_at number run (Some length, out) = (page_of (over_of run) length, out)
+refused_at number run (None, out) = (page_of (record { said = NoJob number; run = run }) 0, out)
 
 abbrev pub page_from : List Float → Said → Run → List Float → List Float → List ℕ → Paged
 page_from a (Told answer) run ws q out = paged_of (filled enough a (sheet_of (after (record { answer = answer; run = run }) ws q) 0 Not, out))
-page_from a (NoJob why) run ws q out =
-    let p = refused_at why run (puts (refusal_line (read_number why)) (Some 0, out)) in (after p.0 ws q, p.1)
+page_from a (NoJob number) run ws q out =
+    let p = refused_at number run (puts (refusal_line number) (Some 0, out)) in (after p.0 ws q, p.1)
 page_from a Over run ws q out = (after (page_of (over_of run) 0) ws q, out)
 
 unfoldable pub next_page : List Float → After Listing → List ℕ → Paged

@@ -10,7 +10,7 @@ use crate::replies::waits;
 use bdf::begin;
 use bdf::settings::BDF;
 use bdf::types::{Answer, Run, Tolerance, Turn};
-use job::{CELLS, Job, ReadError};
+use job::{CELLS, Job};
 use matrix::MAX_N;
 
 // What the solver wants of slices for MAX_N components: 2n² + 33n numbers, and 8n.
@@ -23,8 +23,9 @@ pub const QUESTION: usize = 8 * MAX_N;
 pub enum Said {
     // By the solver. A question has no line.
     Told(Answer),
-    // The file is no job, and nothing was begun.
-    NoJob(ReadError),
+    // The file is no job: it is refused by this number, and nothing was begun.
+    // Stays a number: `next_page` prints any, and `page_gave` and `page_yields` hold of any.
+    NoJob(u64),
     // Every line was given.
     Over,
 }
@@ -50,7 +51,7 @@ pub fn open(
     let mut cells = [0.0f64; CELLS];
     match job::read(file, &mut y0, &mut cells) {
         Ok(j) => begun(j, &y0, &cells, a, ws, q),
-        Err(why) => refused(why),
+        Err(why) => refused(why.number()),
     }
 }
 
@@ -111,8 +112,8 @@ pub(crate) fn due(turn: Turn) -> Listing
 }
 
 // A file that is refused has no run: its state is that of a run with nothing to do, which has ended.
-fn refused(why: ReadError) -> Listing
-    ensures { result ≡ refused_of why }
+fn refused(number: u64) -> Listing
+    ensures { result ≡ refused_of number }
 {
     let turn = begin(
         BDF::new(),
@@ -127,7 +128,7 @@ fn refused(why: ReadError) -> Listing
         &mut [],
     );
     Listing {
-        said: Said::NoJob(why),
+        said: Said::NoJob(number),
         run: turn.run,
     }
 }

@@ -4,7 +4,6 @@ ghost use Rattle.matrix.specs.Size.{max_n};
 ghost use Rattle.text.specs.Page.{puts};
 ghost use Rattle.lines.specs.Lines.{refusal_line};
 ghost use Rattle.rules.specs.State.{after};
-ghost use Rattle.job.specs.Reading.{read_number};
 ghost use Rattle.listing.specs.declared.pages.Stop.TheVariants.{Not};
 ghost use Rattle.listing.specs.Pages.{over_of, page_of, enough, sheet_of, given_of, refused_at, paged_of, next_page};
 ghost use Rattle.listing.specs.Pages.{onward as onward_of, answered as answered_of, filled as filled_of};
@@ -13,7 +12,7 @@ use crate::answer::answer_line;
 use crate::opening::{Listing, QUESTION, Said, WORKSPACE, due};
 use crate::replies::{replied, waits};
 use bdf::types::{Run, Turn};
-use job::{CELLS, ReadError};
+use job::CELLS;
 use matrix::MAX_N;
 
 // A page that was given: its text stands in the first `length` bytes of what was lent for it.
@@ -55,7 +54,7 @@ pub fn next_page(
     let Listing { said, run } = l;
     match said {
         Said::Told(answer) => paged(Turn { answer, run }, a, ws, q, out),
-        Said::NoJob(why) => refused(why, run, out),
+        Said::NoJob(number) => refused(number, run, out),
         Said::Over => page_of(over(run), 0),
     }
 }
@@ -76,15 +75,15 @@ fn over(run: Run) -> Listing
 }
 
 // The line of a file's refusal.
-fn refused(why: ReadError, run: Run, out: &mut [u8]) -> Page
-    ensures { (result, out.new) ≡ refused_at why run (puts (refusal_line (read_number why)) (Some 0, out.old)) }
+fn refused(number: u64, run: Run, out: &mut [u8]) -> Page
+    ensures { (result, out.new) ≡ refused_at number run (puts (refusal_line number) (Some 0, out.old)) }
 {
     let mut page = text::Page::new(out);
-    lines::refusal_line(&mut page, why.number());
+    lines::refusal_line(&mut page, number);
     match page.place() {
         Some(length) => page_of(over(run), length),
         None => {
-            let said = Said::NoJob(why);
+            let said = Said::NoJob(number);
             page_of(Listing { said, run }, 0)
         }
     }

@@ -7,8 +7,6 @@ use Rattle.text.specs.Page.{Sheet as Put, puts}
 use Rattle.lines.specs.Lines.{refusal_line}
 use Rattle.rules.specs.Answers.{is_question_or_notice}
 use Rattle.rules.specs.State.{After, after}
-use Rattle.job.specs.declared.form.ReadError.{ReadError}
-use Rattle.job.specs.Reading.{read_number}
 use Rattle.listing.specs.Types.{Run, Turn}
 use Rattle.listing.specs.Printed.{line_of}
 use Rattle.listing.specs.Pages.{UnderWay, sheet_of, turn_of, onward, answered_at, answered, goes_on, filled, enough, refused_at, page_from, next_page}
@@ -57,13 +55,13 @@ unfolding filled
 filled_within zero a u h = h
 filled_within (suc k) a u h = either Within (goes_on u.0.is.stop) (λ _. filled_within k a (answered a u) (answered_within a u h)) (λ _. h)
 
-refused_within : (why : ReadError) (run : Run) (out : List ℕ) (p : Put) → PutAt (refusal_line (read_number why)) 0 out p → (refused_at why run p).0.length ≤ length (refused_at why run p).1
-refused_within why run out (Some next, page) put = put.0
-refused_within why run out (None, page) put = omega arith
+refused_within : (number : ℕ) (run : Run) (out : List ℕ) (p : Put) → PutAt (refusal_line number) 0 out p → (refused_at number run p).0.length ≤ length (refused_at number run p).1
+refused_within number run out (Some next, page) put = put.0
+refused_within number run out (None, page) put = omega arith
 
 page_within : (a : List Float) (said : Said) (run : Run) (ws q : List Float) (out : List ℕ) → let p = page_from a said run ws q out in p.0.is.length ≤ length p.1
 page_within a (Told answer) run ws q out = filled_within enough a (sheet_of (after (record { answer = answer; run = run }) ws q) 0 Not, out) (omega arith)
-page_within a (NoJob why) run ws q out = refused_within why run out (puts (refusal_line (read_number why)) (Some 0, out)) (put_at _ _ _)
+page_within a (NoJob number) run ws q out = refused_within number run out (puts (refusal_line number) (Some 0, out)) (put_at _ _ _)
 page_within a Over run ws q out = omega arith
 
 -- a page's text lies within its bytes

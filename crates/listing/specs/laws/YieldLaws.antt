@@ -12,8 +12,6 @@ use Rattle.rules.specs.Answers.{is_question_or_notice}
 use Rattle.rules.specs.State.{After, after}
 use Rattle.listing.specs.Types.{Run, Turn}
 use Rattle.listing.specs.Replies.{replied}
-use Rattle.job.specs.declared.form.ReadError.{ReadError}
-use Rattle.job.specs.Reading.{read_number}
 use Rattle.listing.specs.Printed.{line_of}
 use Rattle.listing.specs.Pages.{UnderWay, sheet_of, turn_of, onward, answered_at, answered, goes_on, filled, enough, Paged, stopped_of, paged_of, refused_at, page_from, next_page}
 use Rattle.listing.specs.laws.FilledLaws.{filled_stops, filled_more}
@@ -43,7 +41,7 @@ put_moves t at out =
 
 abbrev pub FitsBy : List Float → Said → Run → List Float → List Float → Type 0
 FitsBy a (Told answer) run ws q = Fitting a (after (record { answer = answer; run = run }) ws q)
-FitsBy a (NoJob why) run ws q = Unit
+FitsBy a (NoJob number) run ws q = Unit
 FitsBy a Over run ws q = Unit
 
 abbrev pub ListingFits : List Float → After Listing → Type 0
@@ -119,18 +117,18 @@ module _ (a : List Float) where
   paged_yields (s, out) g = record { some = g.some; fits = follows_fits s.is.stop (turn_of s) g.follows }
 
   refused_yields :
-      (why : ReadError) (run : Run) (ws q : List Float) (out : List ℕ) (p : Put) → ample ≤ length out → Moves (refusal_line (read_number why)) 0 out p →
-      Yields (after (refused_at why run p).0 ws q, (refused_at why run p).1)
-  refused_yields why run ws q out (Some next, page) room moved =
-      let short = refusal_short (read_number why) in record { some = omega arith; fits = tt }
-  refused_yields why run ws q out (None, page) room moved = let short = refusal_short (read_number why) in absurd (omega arith)
+      (number : ℕ) (run : Run) (ws q : List Float) (out : List ℕ) (p : Put) → ample ≤ length out → Moves (refusal_line number) 0 out p →
+      Yields (after (refused_at number run p).0 ws q, (refused_at number run p).1)
+  refused_yields number run ws q out (Some next, page) room moved =
+      let short = refusal_short number in record { some = omega arith; fits = tt }
+  refused_yields number run ws q out (None, page) room moved = let short = refusal_short number in absurd (omega arith)
 
   page_yields :
       (said : Said) (run : Run) (ws q : List Float) (out : List ℕ) → ample ≤ length out → FitsBy a said run ws q →
       (said ≡ Over) ⊎ Yields (page_from a said run ws q out)
   page_yields (Told answer) run ws q out room f = inr (paged_yields _ (filled_gives f.2 enough 0 out f.1 (omega arith) room))
-  page_yields (NoJob why) run ws q out room f =
-      inr (refused_yields why run ws q out (puts (refusal_line (read_number why)) (Some 0, out)) room (put_moves _ _ _))
+  page_yields (NoJob number) run ws q out room f =
+      inr (refused_yields number run ws q out (puts (refusal_line number) (Some 0, out)) room (put_moves _ _ _))
   page_yields Over run ws q out room f = inl refl
 
   -- a listing is over, or its next page gives at least one byte

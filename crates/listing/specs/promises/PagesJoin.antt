@@ -1,14 +1,13 @@
 -- The pages of a listing, one after another, are the whole output: whatever bytes are lent for each, what they have given so far is
 -- the beginning of `printed`, and once the listing is over it is all of it. The file is opened with a workspace and a question slice of
 -- zeros, as the job program does, and each page takes over the listing, A and both slices as the one before left them.
-use Rattle.std.specs.Prelude.{◌≡◌, true, length, take, replicate, Float, None, Some}
+use Rattle.std.specs.Prelude.{◌≡◌, true, length, take, Float, None, Some}
 use Rattle.std.proofs.Math.Path.{refl, sym, ap}
 use Rattle.std.proofs.Common.{◌∙◌, subst}
 use Rattle.std.proofs.lemmas.Bool.{false≢true}
 use mathlib.Core.List.{List, [], ◌++◌, append_assoc, append-nil}
 use Prim.Native.Nat.{ℕ, zero, suc, ◌*◌}
 use Rattle.loops.specs.Refusal.{Outcome, gives, refuses}
-use Rattle.loops.specs.Arithmetic.{+0}
 use Rattle.matrix.specs.Size.{max_n}
 use Rattle.loops.specs.laws.ChoiceLaws.{either, when_true, when_false}
 use Rattle.text.specs.Page.{Sheet as Put, puts}
@@ -16,9 +15,7 @@ use Rattle.lines.specs.Lines.{refusal_line}
 use Rattle.rules.specs.Answers.{is_question_or_notice}
 use Rattle.rules.specs.State.{After, after}
 use Rattle.rules.specs.Bounds.{most}
-use Rattle.job.specs.declared.form.ReadError.{ReadError}
-use Rattle.job.specs.Reading.{read_number, read_refusal, configuration_of}
-use Rattle.job.proofs.Serving.{read_refuses}
+use Rattle.job.specs.Reading.{configuration_of}
 use Rattle.listing.specs.Types.{Run, Turn, Job}
 use Rattle.listing.specs.Replies.{replied}
 use Rattle.listing.specs.Printed.{line_of, lines_from, blank_work, blank_question, reading, lines_for, printed}
@@ -38,7 +35,7 @@ use Rattle.listing.specs.declared.pages.Stop.TheVariants.{Not, NoRoom, AtEnd}
 -- what a listing has still to give
 abbrev pub RemainsBy : List Float → Said → Run → List Float → List Float → List ℕ → Type 0
 RemainsBy a (Told answer) run ws q t = Tells a (after (record { answer = answer; run = run }) ws q) t
-RemainsBy a (NoJob why) run ws q t = t ≡ refusal_line (read_number why)
+RemainsBy a (NoJob number) run ws q t = t ≡ refusal_line number
 RemainsBy a Over run ws q t = t ≡ []
 
 abbrev pub Remains : List Float → After Listing → List ℕ → Type 0
@@ -118,21 +115,21 @@ module _ (a : List Float) where
       record { rest = has.rest; whole = has.whole; remains = stopped_remains s.is.stop (turn_of s) has.rest has.remains }
 
   refused_gave :
-      (why : ReadError) (run : Run) (ws q : List Float) (out : List ℕ) (p : Put) → PutAt (refusal_line (read_number why)) 0 out p →
-      Gave a (refusal_line (read_number why)) (after (refused_at why run p).0 ws q, (refused_at why run p).1)
-  refused_gave why run ws q out (Some next, page) put =
+      (number : ℕ) (run : Run) (ws q : List Float) (out : List ℕ) (p : Put) → PutAt (refusal_line number) 0 out p →
+      Gave a (refusal_line number) (after (refused_at number run p).0 ws q, (refused_at number run p).1)
+  refused_gave number run ws q out (Some next, page) put =
       record { rest = []; whole = sym put.1 ∙ sym (append-nil _); remains = refl }
-  refused_gave why run ws q out (None, page) put =
-      record { rest = refusal_line (read_number why); whole = refl; remains = refl }
+  refused_gave number run ws q out (None, page) put =
+      record { rest = refusal_line number; whole = refl; remains = refl }
 
   page_gave :
       (said : Said) (run : Run) (ws q : List Float) (out t : List ℕ) → RemainsBy a said run ws q t →
       Gave a t (page_from a said run ws q out)
   page_gave (Told answer) run ws q out t r =
       paged_gave _ (filled_has enough _ (record { rest = t; whole = refl; remains = r }))
-  page_gave (NoJob why) run ws q out t r =
-      subst (λ (t : List ℕ). Gave a t (page_from a (NoJob why) run ws q out)) (sym r)
-      (refused_gave why run ws q out (puts (refusal_line (read_number why)) (Some 0, out)) (put_at _ _ _))
+  page_gave (NoJob number) run ws q out t r =
+      subst (λ (t : List ℕ). Gave a t (page_from a (NoJob number) run ws q out)) (sym r)
+      (refused_gave number run ws q out (puts (refusal_line number) (Some 0, out)) (put_at _ _ _))
   page_gave Over run ws q out t r = record { rest = t; whole = refl; remains = r }
 
   -- whatever is lent for it
@@ -178,19 +175,18 @@ begun_remains g b a k t =
 
 -- what is opened has just the whole output to give
 opened_remains :
-    (o : Outcome Job) (y0 b a : List Float) → length b ≡ max_n * max_n → ((number : ℕ) → o ≡ refuses number → read_number (read_refusal number) ≡ number) →
-    let l = opened_from (o, y0, b) a blank_work blank_question in
+    (o : Outcome Job) (y0 b a : List Float) → length b ≡ max_n * max_n → let l = opened_from (o, y0, b) a blank_work blank_question in
     Remains l.1 l.0 (lines_for (o, y0, b))
-opened_remains (gives j) y0 b a wide known =
+opened_remains (gives j) y0 b a wide =
     begun_remains (beginning_of (gives j, y0, b) j) b a (most (configuration_of j (take j.n y0))) (read_tells j y0 b wide)
-opened_remains (refuses number) y0 b a wide known = ap refusal_line (sym (known number refl))
+opened_remains (refuses number) y0 b a wide = refl
 
 module _ (s : List ℕ) (a : List Float) {t : List ℕ} {m : After Listing} (ps : Pages (opened_in0 s a).1 (opened_in0 s a).0 t m) where
   gave : Given (opened_in0 s a).1 (printed s) t m
   unfolding opened printed
   gave =
       let r = reading s in
-      pages_gave (opened_in0 s a).1 (opened_in0 s a).0 (printed s) (opened_remains r.0 r.1 r.2 a (reading_sized s).1 (read_refuses s (replicate max_n +0) (replicate (max_n * max_n) +0))) ps
+      pages_gave (opened_in0 s a).1 (opened_in0 s a).0 (printed s) (opened_remains r.0 r.1 r.2 a (reading_sized s).1) ps
 
   -- at any time the pages are the beginning of the whole output
   pub pages_begin_it : (rest : List ℕ) × (printed s ≡ t ++ rest)

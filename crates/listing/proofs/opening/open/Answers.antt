@@ -10,8 +10,7 @@ use Rattle.rules.specs.State.{After, after}
 use Rattle.rules.specs.Calls.{beginning}
 use Rattle.std.specs.Prelude.{Result, Ok, Err}
 use Rattle.job.specs.declared.form.ReadError.{ReadError}
-use Rattle.job.specs.Reading.{ReadOutcome, reading_of, configuration_of}
-use Rattle.job.specs.laws.ReadingLaws.{read_refused}
+use Rattle.job.specs.Reading.{read_number, ReadOutcome, reading_of, configuration_of}
 use Rattle.job.proofs.Serving.{read_serves}
 use Rattle.listing.specs.Types.{Job}
 use Rattle.listing.specs.Printed.{reading}
@@ -34,9 +33,9 @@ module _ (s : List ℕ) {r : Result Job ReadError} {y0 b : List Float} (read : �
   job_opened a ws q e f = f ∙ said a ws q e
 
   refusal_opened :
-      (a ws q : List Float) {why : ReadError} {l : Listing} → r ≡ Err why → l ≡ refused_of why →
+      (a ws q : List Float) {why : ReadError} {l : Listing} → r ≡ Err why → l ≡ refused_of (read_number why) →
       ◌≡◌ {A = After Listing × List Float} (after l ws q, a) (opened s a ws q)
-  refusal_opened a ws q {why} e f = rw (f, ← read_refused why) (said a ws q e)
+  refusal_opened a ws q e f = rw f (said a ws q e)
 
 pub begun-requires : goal.begun-requires
 unfolding of_bits
@@ -48,4 +47,4 @@ returns-in-Ok c = job_opened _ c.read.ensures _ _ _ c.in-Ok.is c.begun.ensures
 
 pub returns-in-Err : goal.returns-in-Err
 unfolding of_bits
-returns-in-Err c = refusal_opened _ c.read.ensures _ _ _ c.in-Err.is c.refused.ensures
+returns-in-Err c = refusal_opened _ c.read.ensures _ _ _ c.in-Err.is (c.refused.ensures ∙ ap refused_of c.number.ensures)

@@ -1,5 +1,5 @@
 -- `replies::replied` meets its contract. A state of more components than are served is refused, whatever is replied. Assumes nothing.
-use Rattle.std.specs.Prelude.{◌≡◌, Bool, true, false, List, ℕ, ◌*◌, ◌≤◌, ◌<◌, min, leb, take, Float}
+use Rattle.std.specs.Prelude.{◌≡◌, Bool, true, false, List, ℕ, ◌*◌, ◌<◌, min, leb, take, Float}
 use Rattle.std.proofs.Common.{refl, sym, ◌∙◌, arith, leb-true, leb-false}
 use Rattle.matrix.specs.Size.{max_n}
 use Rattle.rules.specs.State.{After, after}
