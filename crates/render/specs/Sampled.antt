@@ -20,7 +20,7 @@ use Rattle.render.specs.Times.{time_of, past, within, first_from, counted}
 
 -- before the first notice
 abbrev pub fresh_grid : Grid
-fresh_grid = Fresh
+fresh_grid = Fresh (record { start = +0; new = +0; h = +0 }) 0
 
 -- behind the notice t, with k the next to write: some k of t is due while that one does not lie past its new x
 abbrev pub placed_at : Notice → ℕ → Grid
@@ -31,7 +31,7 @@ placed_at t k = when past t.new k then Closed t k else Open t k
 -- 18, after a first call: an unfinished notice is repeated, its two x and h; with none unfinished, the notice starts where the last
 -- ended
 abbrev pub follows : Grid → Notice → Bool
-follows Fresh t = true
+follows (Fresh last next) t = true
 follows (Open last next) t = Ieee.eq t.start last.start && Ieee.eq t.new last.new && Ieee.eq t.h last.h
 follows (Closed last next) t = Ieee.eq t.start last.new
 
@@ -43,7 +43,7 @@ proper t = Ieee.lt +0 t.h && within t.start && within t.new
 
 -- the first k that a call may write: on a first call the least whose time is not below x0
 abbrev pub due_from : Grid → Notice → ℕ
-due_from Fresh t = first_from t.start
+due_from (Fresh last next) t = first_from t.start
 due_from (Open last next) t = next
 due_from (Closed last next) t = next
 

@@ -33,11 +33,11 @@ fn is_within(x: f64) -> bool
     EARLIEST <= x && x <= LATEST
 }
 
-// The place on the grid: before the first notice it is fresh, and from then on it has the last notice and the next k to write. It is open
-// while some k of that notice is due, and closed once none is.
+// The place on the grid: the last notice and the next k to write. Before the first notice it is fresh, whatever these are. It is open while
+// some k of that notice is due, and closed once none is.
 #[derive(Clone, Copy)]
 pub enum Grid {
-    Fresh,
+    Fresh { last: Notice, next: u64 },
     Open { last: Notice, next: u64 },
     Closed { last: Notice, next: u64 },
 }
@@ -47,7 +47,12 @@ impl Grid {
     pub fn new() -> Grid
         ensures { result ≡ fresh_grid }
     {
-        Grid::Fresh
+        let last = Notice {
+            start: 0.0,
+            new: 0.0,
+            h: 0.0,
+        };
+        Grid::Fresh { last, next: 0 }
     }
 
     // Whether a notice is in turn: it repeats the one that is open, or starts where the one that is closed ended.
@@ -55,7 +60,7 @@ impl Grid {
         ensures { result ≡ follows self notice }
     {
         match self {
-            Grid::Fresh => true,
+            Grid::Fresh { .. } => true,
             Grid::Open { last, next: _ } => notice == last,
             Grid::Closed { last, next: _ } => notice.start == last.new,
         }
@@ -66,7 +71,7 @@ impl Grid {
         ensures { result ≡ due_from self notice }
     {
         match self {
-            Grid::Fresh => first_from(notice.start),
+            Grid::Fresh { .. } => first_from(notice.start),
             Grid::Open { last: _, next } | Grid::Closed { last: _, next } => next,
         }
     }
