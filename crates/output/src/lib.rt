@@ -4,6 +4,8 @@
 // What is said is where the next text goes, and of a writer whose bytes are known what it holds then. Of a stream no contract tells that.
 #![tactic(auto)]
 
+pub mod bytes;
+
 ghost use Rattle.std.specs.Prelude.{◌≡◌, length};
 ghost use Rattle.text.specs.Page.{SamePage};
 ghost use Rattle.output.specs.Output.{Flushed, MadeRoomy, KeepsSaid};
