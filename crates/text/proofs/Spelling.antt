@@ -1,9 +1,10 @@
 -- Digits that are written from the last to the first are the row of digits that stands from the first to the last, in any notation.
 -- By induction on how many there are: the first one written is the last of the row, and no later one touches it.
-use Rattle.std.proofs.Common.{◌≡◌, refl, ◌∙◌, List, ◌∷◌, ◌++◌, ℕ, zero, suc, ◌-◌, ◌/◌, ◌%◌, ◌≤◌, ◌<◌, length, length-append, drop, arith, append-nil, le_refl}
+use Rattle.std.proofs.Common.{◌≡◌, refl, ◌∙◌, List, ◌∷◌, ◌++◌, ℕ, zero, suc, ◌+◌, ◌-◌, ◌/◌, ◌%◌, ◌≤◌, ◌<◌, length, length-append, length-drop, take, drop, drop-drop, arith, append-nil, le_refl}
 use lib.ListN.{set, length-set, drop_of_length-le}
 use lib.Seq.{append_snoc, drop-cons, get_or-set_same, drop-set-lt}
-use Rattle.text.specs.laws.Notations.{NotationLaws}
+use Rattle.text.specs.Words.{bytes_of}
+use Rattle.text.specs.laws.Notations.{NotationLaws, code_of_byte, bytes_laws}
 
 -- the last k digits of n written in front, the last one first, each by its code: how the code goes
 unfoldable pub written_into : (ℕ → ℕ) → ℕ → ℕ → ℕ → List ℕ → List ℕ
@@ -52,3 +53,10 @@ module _ (code : ℕ → ℕ) (base : ℕ) (row : ℕ → ℕ → List ℕ) (law
   row_is_whole n room =
       row_stands (length room) n room (le_refl (length room))
       ∙ rw (drop_of_length-le room (le_refl (length room))) (append-nil (row (length room) n))
+
+-- bytes written from `at` on
+pub bytes_into_are_bytes : (at k w : ℕ) (out : List ℕ) → at + k ≤ length out →
+    take at out ++ written_into code_of_byte 256 k w (drop at out) ≡ take at out ++ (bytes_of k w ++ drop (at + k) out)
+bytes_into_are_bytes at k w out h =
+    let room : k ≤ length (drop at out) = rw length-drop (omega arith) in
+    rw (row_stands code_of_byte 256 bytes_of bytes_laws k w (drop at out) room, drop-drop) refl

@@ -7,6 +7,6 @@ mod page;
 mod pattern;
 mod word;
 
-pub use page::{Page, places};
+pub use page::{Page, places, stands};
 pub use pattern::{bits, double};
 pub use word::word_at;

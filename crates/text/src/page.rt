@@ -16,6 +16,13 @@ pub struct Page<'a> {
     place: Option<usize>,
 }
 
+// Whether the next text has a place: false on a full page.
+pub fn stands(place: Option<usize>) -> bool
+    ensures { result ≡ stands_of place }
+{
+    place.is_some()
+}
+
 impl<'a> Page<'a> {
     // Text goes to the beginning.
     pub fn new(bytes: &'a mut [u8]) -> Page<'a>
@@ -47,7 +54,7 @@ impl<'a> Page<'a> {
     pub fn is_full(&self) -> bool
         ensures { result ≡ not (stands_of self.now.place) }
     {
-        self.place.is_none()
+        !stands(self.place)
     }
 
     // Whether k bytes more have room; no sum can wrap here, whatever the place is. No page is as long as the greatest number:

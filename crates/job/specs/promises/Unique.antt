@@ -11,7 +11,7 @@ use Rattle.job.specs.declared.right.WrongLength.{WrongLength}
 use Rattle.job.specs.declared.writer.WriteError.{WriteError}
 use Rattle.job.specs.declared.writer.WriteError.TheVariants as write
 use Rattle.job.specs.Types.{BDF}
-use Rattle.job.specs.Reading.{read_refusal, FormOutcome, form_reading_of, read_form_of, ReadOutcome, reading_of, read_of, settings_of}
+use Rattle.job.specs.Reading.{read_number, read_refusal, FormOutcome, form_reading_of, read_form_of, ReadOutcome, reading_of, read_of, settings_of}
 use Rattle.job.specs.Right.{right_side_of}
 use Rattle.job.specs.laws.ReadingLaws.{read_refused}
 use Rattle.job.specs.Writing.{write_number, WriteOutcome, writing_of, write_of}
@@ -56,6 +56,20 @@ pub read_form_unique :
 read_form_unique s y0 a {r} {t} m o =
     let same = m ∙ sym o in
     (sym (form_read_lem r) ∙ ap (λ (x : FormOutcome). form_told x.0) same ∙ form_read_lem t, ap (λ (x : FormOutcome). x.1) same, ap (λ (x : FormOutcome). x.2) same)
+
+-- ---- the numbers of refusals
+
+abbrev pub MeetsReadNumber : ReadError → ℕ → Type 0
+MeetsReadNumber why r = r ≡ read_number why
+
+pub read_number_unique : (why : ReadError) {r s : ℕ} → MeetsReadNumber why r → MeetsReadNumber why s → r ≡ s
+read_number_unique why m o = m ∙ sym o
+
+abbrev pub MeetsWriteNumber : WriteError → ℕ → Type 0
+MeetsWriteNumber why r = r ≡ write_number why
+
+pub write_number_unique : (why : WriteError) {r s : ℕ} → MeetsWriteNumber why r → MeetsWriteNumber why s → r ≡ s
+write_number_unique why m o = m ∙ sym o
 
 -- ---- write
 

@@ -3,8 +3,8 @@
 -- states, of an answer r and of the slices' later contents.
 use Rattle.std.specs.Prelude.{◌≡◌, List, Bool, Float}
 use Rattle.std.proofs.Common.{sym, ap, ◌∙◌}
-use Rattle.rules.specs.Types.{Tolerance, Status, Evals, Steps, Run, Reply, Turn}
-use Rattle.rules.specs.State.{After, after}
+use Rattle.rules.specs.Types.{Tolerance, Status, Evals, Steps, Run, Reply, Answer, Turn}
+use Rattle.rules.specs.State.{After, after, turn}
 use Rattle.rules.specs.Settings.{defaults}
 use Rattle.rules.specs.Statuses.{is_success_of, reached_of}
 use Rattle.rules.specs.Counters.{no_evals, no_steps}
@@ -71,3 +71,16 @@ module _ (run : Run) (reply : Reply) (values ws₀ q₀ : List Float) where
 
   pub go_on_unique : {r r' : Turn} {ws ws' q q' : List Float} → MeetsGoOn r ws q → MeetsGoOn r' ws' q' → (r ≡ r') × (ws ≡ ws') × (q ≡ q')
   go_on_unique m o = same_outcome (m ∙ sym o)
+
+-- ---- resume: the run that was lent is seen beside the answer
+
+module _ (run : Run) (reply : Reply) (values ws₀ q₀ : List Float) where
+  abbrev pub MeetsResume : Answer → Run → List Float → List Float → Type 0
+  MeetsResume r run' ws q = after (turn r run'.awaited run'.at) ws q ≡ go_on_of run reply values ws₀ q₀
+
+  pub resume_unique :
+      {r s : Answer} {run' run'' : Run} {ws ws' q q' : List Float} →
+      MeetsResume r run' ws q → MeetsResume s run'' ws' q' → (r ≡ s) × (run' ≡ run'') × (ws ≡ ws') × (q ≡ q')
+  resume_unique m o =
+      let same = same_outcome (m ∙ sym o) in
+      (ap (λ (t : Turn). t.answer) same.0, ap (λ (t : Turn). t.run) same.0, same.1, same.2)
