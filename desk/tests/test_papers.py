@@ -11,7 +11,7 @@ sys.path[:0] = [str(Path(__file__).resolve().parents[2])]
 from samples import ROOT
 
 # What tells of the past names files as they were.
-HISTORY = ("docs/LANDINGS.md", "docs/DECISIONS.md", "docs/PORT.md", "docs/DESIGN-PASS.md")
+HISTORY = ("docs/LANDINGS.md", "docs/DECISIONS.md", "docs/PORT.md", "docs/DESIGN-PASS.md", "docs/LOOK-BACK.md")
 PAPERS = sorted(path for path in (*ROOT.glob("*.md"), *ROOT.glob("*/*.md")) if "target" not in path.parts)
 
 
