@@ -1,5 +1,6 @@
-// The same of bytes that are lent to be read alone, as a fixed text, and of the place behind what is to be written: which place comes back. None
-// says that a write failed, or that there was no such part of them.
+// Bytes that are lent to be read alone, as a fixed text, and the place behind what is to be written: `flush` and `roomy` of them, as of a page.
+// What is said is which place comes back. None says that a write failed, now or before, or that there was no such part of them; of None
+// nothing is written.
 ghost use Rattle.std.specs.Prelude.{length};
 ghost use Rattle.output.specs.Output.{Flushed, MadeRoomy, KeepsSaid};
 

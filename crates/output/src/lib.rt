@@ -1,4 +1,4 @@
-// A page of text to a writer: written out where the next line may have no room, and at the end.
+// A page of text to a writer, or bytes that are lent: written out where the next line may have no room, and at the end.
 // Afterwards the page is begun anew. A full page says that a write failed: from then on nothing is written.
 //
 // What is said is where the next text goes, and of a writer whose bytes are known what it holds then. Of a stream no contract tells that.

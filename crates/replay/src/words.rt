@@ -43,7 +43,7 @@ impl<'a> Words<'a> {
     }
 
     // One byte more, unless whole words stand there already. A read that gives nothing is no end of the input here: the next may give the rest
-    // of the word, as where a signal interrupts one, or a terminal ends a line.
+    // of the word, as where a signal interrupts one, or an end is typed at a terminal.
     fn read_one_more(&mut self) {
         let end = self.end;
         if end % 8 != 0 && end < self.buffer.len() {

@@ -1,5 +1,6 @@
 -- The contracts of this crate leave no choice: two outcomes that meet one of them, from the same call, are the same answer and the
--- same bytes left on the page. Each `Meets..` is the equation that the code's contract states.
+-- same bytes left on the page. Each `Meets..` is what the code's contract states of the answer and of what is seen of the page: an equation, for
+-- `written` of the text that is lent, if there is one.
 use Rattle.std.specs.Prelude.{◌≡◌, refl, Bool, true, false, not, List, [], ◌∷◌, ℕ, ◌+◌, length, Float, Option, None, Some, MatchOption}
 use Rattle.std.proofs.Common.{sym, ap, ◌∙◌, arith, true≢false, le-leb}
 use Rattle.std.specs.Float.{binary64}
